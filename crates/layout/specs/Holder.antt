@@ -1,0 +1,26 @@
+-- The component that holds a file byte, and the bytes that a layout covers.
+use Prim.Native.Nat.{ℕ, suc}
+use mathlib.Core.List.{List, [], _∷_}
+use mathlib.Core.Bool.{Bool, true, false, cond, _&&_, _||_}
+use lib.Dec.{ltb, leb}
+use Rattle.lists.specs.Tests.{after}
+use Rattle.layout.specs.declared.Component.{Component}
+use Rattle.layout.specs.Neighbours.{endOf}
+
+-- "an extent is [begin, end)": does the component's extent hold byte b?
+abbrev pub holds : Component → ℕ → Bool
+holds c b = leb (c .begin) b && ltb b (c .end)
+
+-- The position of the first component that holds byte b, from 0; the number of components where none does.
+abbrev pub holderOf : ℕ → List Component → ℕ
+holderOf b [] = 0
+holderOf b (c ∷ cs) = cond (holds c b) 0 (suc (holderOf b cs))
+
+-- "It covers the file bytes that lie in some component's extent."
+abbrev pub covers : List Component → ℕ → Bool
+covers [] b = false
+covers (c ∷ cs) b = holds c b || covers cs b
+
+-- Where the last component ends; 0 where there is none.
+abbrev pub lastEnd : List Component → ℕ
+lastEnd cs = after endOf 0 cs

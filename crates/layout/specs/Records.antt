@@ -1,0 +1,64 @@
+-- What the records mean: the components of a layout, the object records of a component, and how a list is packed into the
+-- places of an array. Places past a count mean nothing, and no rule looks at them.
+use Prim.Native.Nat.{ℕ}
+use mathlib.Core.List.{List, [], _∷_, _++_}
+use mathlib.Core.Bool.{Bool, true, false, cond}
+use lib.IntN.{pos}
+use lib.ListN.{length, take, replicate}
+use lib.Seq.{sets}
+use Rattle.layout.specs.declared.Object.{Object}
+use Rattle.layout.specs.declared.Component.{Component}
+use Rattle.layout.specs.declared.Layout.{Layout}
+
+-- What stands in the unused places of an object array.
+abbrev pub noObject : Object
+noObject = record { target = 0; number = 0 }
+
+-- What stands in the unused places of a component array.
+abbrev pub noComponent : Component
+noComponent =
+    record {
+      init = false;
+      extension = false;
+      id = 0;
+      «stripe_count» = 0;
+      «stripe_size» = 0;
+      «first_target» = pos 0;
+      begin = 0;
+      end = 0;
+      «extension_size» = 0;
+      objects = replicate 16 noObject;
+    }
+
+-- The number of object records that a component is to have: "If init, as many object records as the stripe count follow".
+abbrev pub recordCount : Component → ℕ
+recordCount c = cond (c .init) (c .«stripe_count») 0
+
+-- The object records of a component, in stripe order: the first places of its array. All rules read them through this.
+abbrev pub recordsOf : Component → List Object
+recordsOf c = take (recordCount c) (c .objects)
+
+-- The object records "anywhere in the layout", in the order of the components.
+abbrev pub recordsIn : List Component → List Object
+recordsIn [] = []
+recordsIn (c ∷ cs) = recordsOf c ++ recordsIn cs
+
+-- The components of a layout: the first places of its array, as many as its count.
+abbrev pub view : Layout → List Component
+view l = take (l .count) (l .components)
+
+-- Object records packed into the 16 places of a component, the rest blank.
+unfoldable pub packObjects : List Object → List Object
+packObjects os = sets (replicate 16 noObject) 0 os
+
+-- Components packed into the 16 places of a layout, the rest blank.
+unfoldable pub packComponents : List Component → List Component
+packComponents cs = sets (replicate 16 noComponent) 0 cs
+
+-- A layout made from its parts.
+abbrev pub fromParts : ℕ → ℕ → List Component → Layout
+fromParts g n cs = record { generation = g; count = n; components = cs }
+
+-- The layout of a generation and a list of at most 16 components.
+abbrev pub pack : ℕ → List Component → Layout
+pack g cs = fromParts g (length cs) (packComponents cs)

@@ -1,0 +1,5 @@
+pub mod Bools
+pub mod Tests
+pub mod Slices
+pub mod Counting
+pub mod Loops

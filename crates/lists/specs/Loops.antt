@@ -1,0 +1,48 @@
+-- A loop that looks for the first failed test of a rule over the first n elements of an array: what the position is at the
+-- loop's start, when a test passes, when one fails, and at the end.
+use Prim.Native.Nat.{ℕ, zero, suc, _+_, _≤_, _<_}
+use mathlib.Core.Path.{_≡_, refl, sym, ap, _∙_}
+use mathlib.Core.List.{List, [], _∷_}
+use mathlib.Core.Bool.{Bool, true, false}
+use native.Mathlib.Omega.{arith}
+use lib.ListN.{length, getD, take, drop, length-take}
+use lib.Seq.{slice, take-take, length-take-le}
+use Rattle.lists.specs.Tests.{every, firstFailed, along, after, ahead, failed-skip, length-along, length-ahead, drop-along, drop-ahead}
+use Rattle.lists.specs.Slices.{slice-next, slice-done}
+
+module _ {A : Type 0} (l : List A) (n i : ℕ) where
+  module _ {S : Type 0} (ok : S → A → Bool) (next : S → A → S) (s : S) where
+    pub along-start : i ≤ n → n ≤ length l → every (take i (along ok next s (take n l))) ≡ true
+        → firstFailed (along ok next s (take n l)) ≡ i + firstFailed (along ok next (after next s (take i l)) (slice i n l))
+    along-start h k e =
+        let w : i ≤ length (along ok next s (take n l)) = rw (length-along, length-take-le n l k) h in
+        failed-skip i (along ok next s (take n l)) w e ∙ rw (drop-along, take-take i n l h)
+
+    module _ (d : A) (h : i < n) (k : i < length l) where
+      pub along-pass : ok s (getD l i d) ≡ true
+          → i + firstFailed (along ok next s (slice i n l)) ≡ (i + 1) + firstFailed (along ok next (next s (getD l i d)) (slice (i + 1) n l))
+      along-pass e = rw (slice-next l n i d h k, e) (omega arith)
+
+      pub along-fail : ok s (getD l i d) ≡ false → i + firstFailed (along ok next s (slice i n l)) ≡ i
+      along-fail e = rw (slice-next l n i d h k, e) (omega arith)
+
+    pub along-done : n ≤ i → i + firstFailed (along ok next s (slice i n l)) ≡ i
+    along-done h = rw (slice-done l n i h) (omega arith)
+
+  module _ (ok : A → List A → Bool) where
+    pub ahead-start : i ≤ n → n ≤ length l → every (take i (ahead ok (take n l))) ≡ true
+        → firstFailed (ahead ok (take n l)) ≡ i + firstFailed (ahead ok (slice i n l))
+    ahead-start h k e =
+        let w : i ≤ length (ahead ok (take n l)) = rw (length-ahead, length-take-le n l k) h in
+        failed-skip i (ahead ok (take n l)) w e ∙ rw drop-ahead
+
+    module _ (d : A) (h : i < n) (k : i < length l) where
+      pub ahead-pass : ok (getD l i d) (slice (i + 1) n l) ≡ true
+          → i + firstFailed (ahead ok (slice i n l)) ≡ (i + 1) + firstFailed (ahead ok (slice (i + 1) n l))
+      ahead-pass e = rw (slice-next l n i d h k, e) (omega arith)
+
+      pub ahead-fail : ok (getD l i d) (slice (i + 1) n l) ≡ false → i + firstFailed (ahead ok (slice i n l)) ≡ i
+      ahead-fail e = rw (slice-next l n i d h k, e) (omega arith)
+
+    pub ahead-done : n ≤ i → i + firstFailed (ahead ok (slice i n l)) ≡ i
+    ahead-done h = rw (slice-done l n i h) (omega arith)

@@ -1,0 +1,31 @@
+-- What a loop over the first n elements of an array asks for: the part from i on is the element at i and the part after it.
+use Prim.Native.Nat.{ℕ, zero, suc, _+_, _≤_, _<_}
+use mathlib.Core.Path.{_≡_, refl, sym, ap, _∙_}
+use mathlib.Core.List.{List, [], _∷_, _++_, map}
+use native.Mathlib.Omega.{arith}
+use native.Mathlib.Numerals.{add-one}
+use native.Mathlib.Nat.{add-zero, add-suc, suc-add}
+use lib.ListN.{length, getD, take, drop, set, length-take, length-map, drop-of-length-le}
+use lib.Seq.{slice, sets, drop-cons, getD-take, take-suc}
+
+module _ {A : Type 0} (l : List A) (n i : ℕ) where
+  pub slice-next : (d : A) → i < n → i < length l → slice i n l ≡ getD l i d ∷ slice (i + 1) n l
+  slice-next d h k =
+      let e : i < length (take n l) = omega (arith, length-take n l) in
+      rw (drop-cons (take n l) i d e, getD-take n l i d h, add-one)
+
+  pub slice-done : n ≤ i → slice i n l ≡ []
+  slice-done h = drop-of-length-le (take n l) {i = i} (omega (arith, length-take n l))
+
+-- The first i + 1 elements are the first i and the one at i.
+pub take-next : {A : Type 0} (l : List A) (i : ℕ) (d : A) → i < length l → take (i + 1) l ≡ take i l ++ (getD l i d ∷ [])
+take-next l i d h = rw add-one (take-suc l i d h)
+
+-- Two runs of stores, one behind the other, are one.
+pub sets-append : {A : Type 0} (l : List A) (i : ℕ) (a b : List A) → sets l i (a ++ b) ≡ sets (sets l i a) (i + length a) b
+sets-append l i [] b = rw add-zero
+sets-append l i (x ∷ a) b = rw (add-suc, ← suc-add i (length a)) (sets-append (set l i x) (suc i) a b)
+
+-- The length of a list, told of the list mapped.
+pub unmapped : {A B : Type 0} (l : List A) (g : A → B) {n : ℕ} → length (map g l) ≡ n → length l ≡ n
+unmapped l g e = sym (length-map l g) ∙ e

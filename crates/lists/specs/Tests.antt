@@ -1,0 +1,100 @@
+-- A rule over a list is a list of tests, one for each element. The rule holds if every test passes; where it does not, the
+-- first test that fails tells the position of the fault.
+use Prim.Native.Nat.{ℕ, zero, suc, _+_, _≤_, _<_}
+use mathlib.Core.Path.{_≡_, refl, sym, ap, _∙_}
+use mathlib.Core.List.{List, [], _∷_, _++_}
+use mathlib.Core.Bool.{Bool, true, false, cond, _&&_, true≢false, false≢true}
+use native.Mathlib.Omega.{arith}
+use native.Mathlib.Nat.{suc-add}
+use lib.ListN.{length, take, drop}
+use Rattle.lists.specs.Bools.{bool-cases, both-true, true-both, clash}
+
+-- Do all tests pass?
+abbrev pub every : List Bool → Bool
+every [] = true
+every (t ∷ ts) = t && every ts
+
+-- The position of the first test that fails, from 0; the number of tests where none does.
+abbrev pub firstFailed : List Bool → ℕ
+firstFailed [] = 0
+firstFailed (t ∷ ts) = cond t (suc (firstFailed ts)) 0
+
+-- One test for each element, along the list: `ok` of a state and the element, and `next` gives the state at the next.
+module _ {S A : Type 0} (ok : S → A → Bool) (next : S → A → S) where
+  abbrev pub along : S → List A → List Bool
+  along s [] = []
+  along s (a ∷ l) = ok s a ∷ along (next s a) l
+
+-- The state after a list.
+abbrev pub after : {S A : Type 0} → (S → A → S) → S → List A → S
+after next s [] = s
+after next s (a ∷ l) = after next (next s a) l
+
+-- One test for each element and what follows it.
+abbrev pub ahead : {A : Type 0} → (A → List A → Bool) → List A → List Bool
+ahead ok [] = []
+ahead ok (a ∷ l) = ok a l ∷ ahead ok l
+
+-- One test for each element by itself.
+abbrev pub each : {A : Type 0} → (A → Bool) → List A → List Bool
+each {A} ok l = ahead (λ (a : A) (rest : List A). ok a) l
+
+-- A test fails exactly if the first that does stands below the number of tests.
+pub some-failed : (ts : List Bool) → firstFailed ts < length ts → every ts ≡ false
+some-failed [] h = absurd (omega arith)
+some-failed (true ∷ ts) h = some-failed ts (omega arith)
+some-failed (false ∷ ts) h = refl
+
+pub none-failed : (ts : List Bool) → length ts ≤ firstFailed ts → every ts ≡ true
+none-failed [] h = refl
+none-failed (true ∷ ts) h = none-failed ts (omega arith)
+none-failed (false ∷ ts) h = absurd (omega arith)
+
+pub every-failed : (ts : List Bool) → every ts ≡ true → firstFailed ts ≡ length ts
+every-failed [] e = refl
+every-failed (true ∷ ts) e = ap suc (every-failed ts e)
+every-failed (false ∷ ts) e = absurd (false≢true e)
+
+-- Tests that are known to pass may be passed over.
+pub failed-skip : (k : ℕ) (ts : List Bool) → k ≤ length ts → every (take k ts) ≡ true → firstFailed ts ≡ k + firstFailed (drop k ts)
+failed-skip zero ts h e = omega arith
+failed-skip (suc k) [] h e = absurd (omega arith)
+failed-skip (suc k) (true ∷ ts) h e = ap suc (failed-skip k ts (omega arith) e) ∙ sym (suc-add k (firstFailed (drop k ts)))
+failed-skip (suc k) (false ∷ ts) h e = absurd (false≢true e)
+
+-- What holds of all tests holds of the first ones.
+pub every-take : (k : ℕ) (ts : List Bool) → every ts ≡ true → every (take k ts) ≡ true
+every-take zero ts e = refl
+every-take (suc k) [] e = refl
+every-take (suc k) (true ∷ ts) e = every-take k ts e
+every-take (suc k) (false ∷ ts) e = e
+
+module _ {S A : Type 0} (ok : S → A → Bool) (next : S → A → S) where
+  pub length-along : (s : S) (l : List A) → length (along ok next s l) ≡ length l
+  length-along s [] = refl
+  length-along s (a ∷ l) = ap suc (length-along (next s a) l)
+
+  pub take-along : (k : ℕ) (s : S) (l : List A) → take k (along ok next s l) ≡ along ok next s (take k l)
+  take-along zero s l = refl
+  take-along (suc k) s [] = refl
+  take-along (suc k) s (a ∷ l) = ap (λ (ts : List Bool). ok s a ∷ ts) (take-along k (next s a) l)
+
+  pub drop-along : (k : ℕ) (s : S) (l : List A) → drop k (along ok next s l) ≡ along ok next (after next s (take k l)) (drop k l)
+  drop-along zero s l = refl
+  drop-along (suc k) s [] = refl
+  drop-along (suc k) s (a ∷ l) = drop-along k (next s a) l
+
+module _ {A : Type 0} (ok : A → List A → Bool) where
+  pub length-ahead : (l : List A) → length (ahead ok l) ≡ length l
+  length-ahead [] = refl
+  length-ahead (a ∷ l) = ap suc (length-ahead l)
+
+  pub drop-ahead : (k : ℕ) (l : List A) → drop k (ahead ok l) ≡ ahead ok (drop k l)
+  drop-ahead zero l = refl
+  drop-ahead (suc k) [] = refl
+  drop-ahead (suc k) (a ∷ l) = drop-ahead k l
+
+pub take-each : {A : Type 0} (ok : A → Bool) (k : ℕ) (l : List A) → take k (each ok l) ≡ each ok (take k l)
+take-each ok zero l = refl
+take-each ok (suc k) [] = refl
+take-each ok (suc k) (a ∷ l) = ap (λ (ts : List Bool). ok a ∷ ts) (take-each ok k l)

@@ -1,3 +1,4 @@
 pub mod Signed
 pub mod Unread
 pub mod FirstTarget
+pub mod Ends

@@ -5,3 +5,7 @@ pub mod Distinct
 pub mod Rules
 pub mod Holder
 pub mod Facts
+pub mod FactLaws
+pub mod PrefixLaws
+pub mod HolderLaws
+pub mod RecordLaws

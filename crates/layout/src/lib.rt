@@ -3,6 +3,7 @@ ghost use mathlib.Core.Path.{_≡_};
 ghost use Rattle.layout.specs.Records.{fromParts};
 
 pub mod fields;
+pub mod neighbours;
 
 // An object of the store: the target that it lies on, and its number there.
 pub struct Object {

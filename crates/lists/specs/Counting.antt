@@ -1,19 +1,28 @@
 -- Lists whose elements all differ, by a test of sameness: as a list of tests, and as counts.
 use Prim.Native.Nat.{ℕ, zero, suc, _+_, _≤_, _<_}
 use mathlib.Core.Path.{_≡_, refl, sym, ap, _∙_, subst}
-use mathlib.Core.List.{List, [], _∷_, _++_, append-assoc}
+use mathlib.Core.List.{List, [], _∷_, _++_, append-nil}
 use mathlib.Core.Bool.{Bool, true, false, not, _&&_, _||_, true≢false, false≢true}
 use native.Mathlib.Omega.{arith}
 use lib.ListN.{length, getD}
 use lib.Seq.{append-snoc}
 use borrow.Author.Tests.{not-true}
 use Rattle.lists.specs.Bools.{bool-cases, clash, both-true, both-false, true-both}
-use Rattle.lists.specs.Tests.{every, along}
+use Rattle.lists.specs.Tests.{every, along, after}
 
 -- 1 for a test that passes, 0 for one that fails.
 abbrev pub bit : Bool → ℕ
 bit true = 1
 bit false = 0
+
+-- Those seen, and x.
+abbrev pub seenWith : {A : Type 0} → List A → A → List A
+seenWith seen x = seen ++ (x ∷ [])
+
+-- The state after a list is what was seen and the list.
+pub after-seen : {A : Type 0} (seen l : List A) → after seenWith seen l ≡ seen ++ l
+after-seen seen [] = sym (append-nil seen)
+after-seen seen (a ∷ l) = after-seen (seen ++ (a ∷ [])) l ∙ append-snoc seen a l
 
 module _ {A : Type 0} (same : A → A → Bool) where
   -- Does x stand in the list?
@@ -24,10 +33,6 @@ module _ {A : Type 0} (same : A → A → Bool) where
   -- Does x stand in none of those seen?
   abbrev pub unseen : List A → A → Bool
   unseen seen x = not (elem x seen)
-
-  -- Those seen, and x.
-  abbrev pub seenWith : List A → A → List A
-  seenWith seen x = seen ++ (x ∷ [])
 
   -- One test for each element: it differs from all that stand before it.
   abbrev pub fresh : List A → List Bool

@@ -1,14 +1,15 @@
 -- A loop that looks for the first failed test of a rule over the first n elements of an array: what the position is at the
 -- loop's start, when a test passes, when one fails, and at the end.
-use Prim.Native.Nat.{ℕ, zero, suc, _+_, _≤_, _<_}
-use mathlib.Core.Path.{_≡_, refl, sym, ap, _∙_}
-use mathlib.Core.List.{List, [], _∷_}
+use Prim.Native.Nat.{ℕ, _+_, _-_, _≤_, _<_}
+use mathlib.Core.Path.{_≡_, ap, _∙_}
+use mathlib.Core.List.{List, []}
 use mathlib.Core.Bool.{Bool, true, false}
 use native.Mathlib.Omega.{arith}
-use lib.ListN.{length, getD, take, drop, length-take}
+use lib.ListN.{length, getD, take}
 use lib.Seq.{slice, take-take, length-take-le}
-use Rattle.lists.specs.Tests.{every, firstFailed, along, after, ahead, failed-skip, length-along, length-ahead, drop-along, drop-ahead}
-use Rattle.lists.specs.Slices.{slice-next, slice-done}
+use Rattle.lists.specs.Tests.{every, firstFailed, along, after, after-append, ahead, failed-skip, length-along, length-ahead, drop-along, drop-ahead}
+use Rattle.lists.specs.Counting.{elem, unseen, seenWith, fresh, after-seen}
+use Rattle.lists.specs.Slices.{slice-next, slice-done, take-next}
 
 module _ {A : Type 0} (l : List A) (n i : ℕ) where
   module _ {S : Type 0} (ok : S → A → Bool) (next : S → A → S) (s : S) where
@@ -46,3 +47,29 @@ module _ {A : Type 0} (l : List A) (n i : ℕ) where
 
     pub ahead-done : n ≤ i → i + firstFailed (ahead ok (slice i n l)) ≡ i
     ahead-done h = rw (slice-done l n i h) (omega arith)
+
+-- The state after the first i elements, by the last of them.
+pub after-before : {S A : Type 0} (next : S → A → S) (s : S) (l : List A) (i : ℕ) (d : A) → 0 < i → i ≤ length l
+    → after next s (take i l) ≡ next (after next s (take (i - 1) l)) (getD l (i - 1) d)
+after-before next s l i d h k =
+    let e : i ≡ i - 1 + 1 = omega arith in
+    ap (λ (j : ℕ). after next s (take j l)) e ∙ rw (take-next l (i - 1) d (omega arith), after-append)
+
+-- A scan for the first element that equals one before it: a row of the scan asks one element of all that stand before it.
+module _ {A : Type 0} (same : A → A → Bool) (l : List A) (n i : ℕ) where
+  pub scan-start : i ≤ n → n ≤ length l → every (take i (fresh same (take n l))) ≡ true
+      → firstFailed (fresh same (take n l)) ≡ i + firstFailed (along (unseen same) seenWith (take i l) (slice i n l))
+  scan-start h k e = along-start l n i (unseen same) seenWith [] h k e ∙ rw (after-seen [] (take i l))
+
+  module _ (d : A) (h : i < n) (k : i < length l) where
+    pub scan-pass : elem same (getD l i d) (take i l) ≡ false
+        → i + firstFailed (along (unseen same) seenWith (take i l) (slice i n l))
+        ≡ (i + 1) + firstFailed (along (unseen same) seenWith (take (i + 1) l) (slice (i + 1) n l))
+    scan-pass e = along-pass l n i (unseen same) seenWith (take i l) d h k (rw e) ∙ rw (take-next l i d k)
+
+    pub scan-hit : elem same (getD l i d) (take i l) ≡ true
+        → i + firstFailed (along (unseen same) seenWith (take i l) (slice i n l)) ≡ i
+    scan-hit e = along-fail l n i (unseen same) seenWith (take i l) d h k (rw e)
+
+  pub scan-done : n ≤ i → i + firstFailed (along (unseen same) seenWith (take i l) (slice i n l)) ≡ i
+  scan-done h = along-done l n i (unseen same) seenWith (take i l) h

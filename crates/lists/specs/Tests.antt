@@ -6,7 +6,7 @@ use mathlib.Core.List.{List, [], _∷_, _++_}
 use mathlib.Core.Bool.{Bool, true, false, cond, _&&_, true≢false, false≢true}
 use native.Mathlib.Omega.{arith}
 use native.Mathlib.Nat.{suc-add}
-use lib.ListN.{length, take, drop}
+use lib.ListN.{length, getD, take, drop}
 use Rattle.lists.specs.Bools.{bool-cases, both-true, true-both, clash}
 
 -- Do all tests pass?
@@ -29,6 +29,10 @@ module _ {S A : Type 0} (ok : S → A → Bool) (next : S → A → S) where
 abbrev pub after : {S A : Type 0} → (S → A → S) → S → List A → S
 after next s [] = s
 after next s (a ∷ l) = after next (next s a) l
+
+pub after-append : {S A : Type 0} (next : S → A → S) (s : S) (l m : List A) → after next s (l ++ m) ≡ after next (after next s l) m
+after-append next s [] m = refl
+after-append next s (a ∷ l) m = after-append next (next s a) l m
 
 -- One test for each element and what follows it.
 abbrev pub ahead : {A : Type 0} → (A → List A → Bool) → List A → List Bool
@@ -98,3 +102,27 @@ pub take-each : {A : Type 0} (ok : A → Bool) (k : ℕ) (l : List A) → take k
 take-each ok zero l = refl
 take-each ok (suc k) [] = refl
 take-each ok (suc k) (a ∷ l) = ap (λ (ts : List Bool). ok a ∷ ts) (take-each ok k l)
+
+-- Every element passes its test exactly if the element at each place does.
+module _ {A : Type 0} (ok : A → Bool) (d : A) where
+  pub each-at : (l : List A) → every (each ok l) ≡ true → (i : ℕ) → i < length l → ok (getD l i d) ≡ true
+  each-at [] e i h = absurd (omega arith)
+  each-at (a ∷ l) e zero h = both-true (ok a) (every (each ok l)) e .0
+  each-at (a ∷ l) e (suc i) h = each-at l (both-true (ok a) (every (each ok l)) e .1) i (omega arith)
+
+  pub at-each : (l : List A) → ((i : ℕ) → i < length l → ok (getD l i d) ≡ true) → every (each ok l) ≡ true
+  at-each [] h = refl
+  at-each (a ∷ l) h = true-both (h 0 (omega arith)) (at-each l (λ i k. h (suc i) (omega arith)))
+
+-- A conjunction `t && u && v ..`, by its first test and the list of the others.
+abbrev pub conjunction : Bool → List Bool → Bool
+conjunction t [] = t
+conjunction t (u ∷ us) = conjunction (t && u) us
+
+-- If a conjunction passes, so does its test at each place.
+pub conjunction-at : (t : Bool) (us : List Bool) → conjunction t us ≡ true → (i : ℕ) → getD (t ∷ us) i true ≡ true
+conjunction-at t [] e zero = e
+conjunction-at t [] e (suc i) = refl
+conjunction-at t (u ∷ us) e zero = both-true t u (conjunction-at (t && u) us e 0) .0
+conjunction-at t (u ∷ us) e (suc zero) = both-true t u (conjunction-at (t && u) us e 0) .1
+conjunction-at t (u ∷ us) e (suc (suc i)) = conjunction-at (t && u) us e (suc i)

@@ -1,0 +1,56 @@
+use Prim.Native.Nat.{_+_, _≤_, _-_}
+use mathlib.Core.Path.{_≡_, sym, _∙_}
+use native.Mathlib.Omega.{arith}
+use lib.ListN.{length}
+use lib.Seq.{slice}
+use borrow.Author.Tests.{not-true, not-false}
+use Rattle.lists.specs.Tests.{firstFailed}
+use Rattle.lists.specs.Slices.{unmapped, slice-next}
+use Rattle.lists.specs.Loops.{ahead-start, ahead-pass, ahead-fail}
+use Rattle.layout.specs.Records.{view}
+use Rattle.layout.specs.Neighbours.{emptyOk, emptyTests}
+use Rattle.layout.proofs.Unread.{unread}
+use Rattle.layout.proofs.Ends.{empty-end}
+use borrow.Author.Needs.{needs}
+use Rattle.layout.proofs.neighbours.empty_fault.Statement.{statement}
+use Rattle.layout.proofs.neighbours.empty_fault.Tie as tie
+
+abbrev Inv-loop : tie.InvT-loop
+Inv-loop from l n i₀ i = (i ≤ n) × (firstFailed (emptyTests (view l)) ≡ i + firstFailed (emptyTests (slice i n (l .components))))
+
+abbrev μ-loop : tie.MeasureT-loop
+μ-loop from l n i₀ i = n - i
+
+loop-holds : tie.Need-loop-holds Inv-loop μ-loop
+loop-holds c =
+    let l = c .args .t1 in
+    let h : length (l .components) ≡ 16 = unmapped (l .components) _ (c .good .0 .1 .1 .1 .1 .0 .1 .0 .1) in
+    (search needs, ahead-start (l .components) (l .count) (c .args .from) emptyOk (c .pre .0) (omega arith) (c .pre .2))
+
+returns : tie.Need-returns Inv-loop μ-loop
+returns c =
+    let p = c .before .before .before .before .before in
+    let l = p .before .args .t1 in
+    let h : length (l .components) ≡ 16 = unmapped (l .components) _ (p .before .good .0 .1 .1 .1 .1 .0 .1 .0 .1) in
+    sym (p .loop .inv .1 ∙ ahead-fail (l .components) (l .count) (p .loop .i) emptyOk unread (omega arith) (omega arith)
+    (rw (slice-next (l .components) (l .count) (p .loop .i + 1) unread (c .before .before .before .before .loop-test .taken) (omega arith))
+    (sym (c .before .empty-ok .ensures) ∙ not-true (c .before .empty-ok .result) (c .if1 .taken))))
+
+loop-again : tie.Need-loop-again Inv-loop μ-loop
+loop-again c =
+    let p = c .before .before .before .before .before in
+    let l = p .before .args .t1 in
+    let h : length (l .components) ≡ 16 = unmapped (l .components) _ (p .before .good .0 .1 .1 .1 .1 .0 .1 .0 .1) in
+    (omega arith, p .loop .inv .1 ∙ ahead-pass (l .components) (l .count) (p .loop .i) emptyOk unread (omega arith) (omega arith)
+    (rw (slice-next (l .components) (l .count) (p .loop .i + 1) unread (c .before .before .before .before .loop-test .taken) (omega arith))
+    (sym (c .before .empty-ok .ensures) ∙ not-false (c .before .empty-ok .result) (c .if1 .left))))
+
+returns-2 : tie.Need-returns-2 Inv-loop μ-loop
+returns-2 c =
+    let s = c .before .before in
+    let l = s .args .t1 in
+    let h : length (l .components) ≡ 16 = unmapped (l .components) _ (s .good .0 .1 .1 .1 .1 .0 .1 .0 .1) in
+    sym (c .before .loop .inv .1 ∙ empty-end (l .components) (l .count) (c .before .loop .i) unread (omega arith) (omega arith) (omega arith))
+
+pub empty-fault-spec : {M : Type 1} → statement M
+empty-fault-spec = tie.close (tie.spec Inv-loop μ-loop loop-holds (λ c. search needs) (λ c. search needs) (λ c. search needs) (λ c. search needs) (λ c. search needs) (λ c. search needs) (λ c κs. search needs) returns (λ c. search needs) loop-again returns-2)

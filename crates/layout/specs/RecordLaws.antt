@@ -1,0 +1,34 @@
+-- A list packed into the places of an array is read back as it was.
+use Prim.Native.Nat.{ℕ, _+_, _≤_}
+use mathlib.Core.Path.{_≡_}
+use mathlib.Core.List.{List}
+use native.Mathlib.Omega.{arith}
+use lib.ListN.{length, take, drop, replicate}
+use lib.Seq.{sets, length-sets, sets-eq, take-append-seam}
+use Rattle.layout.specs.declared.Object.{Object}
+use Rattle.layout.specs.declared.Component.{Component}
+use Rattle.layout.specs.Records.{noObject, noComponent, view, packObjects, packComponents, pack}
+
+-- A list stored from the first place of a list that is at least as long stands in its first places.
+take-sets : {A : Type 0} (l v : List A) → length v ≤ length l → take (length v) (sets l 0 v) ≡ v
+take-sets l v h = rw (sets-eq v l 0 (omega arith)) (take-append-seam v (drop (0 + length v) l))
+
+-- A component array always has 16 places.
+pub pack-components-length : (cs : List Component) → length (packComponents cs) ≡ 16
+unfolding packComponents
+pack-components-length cs = length-sets (replicate 16 noComponent) 0 cs
+
+-- An object array always has 16 places.
+pub pack-objects-length : (os : List Object) → length (packObjects os) ≡ 16
+unfolding packObjects
+pack-objects-length os = length-sets (replicate 16 noObject) 0 os
+
+-- The components of a layout made from at most 16 components are those.
+pub view-pack : (g : ℕ) (cs : List Component) → length cs ≤ 16 → view (pack g cs) ≡ cs
+unfolding packComponents
+view-pack g cs h = take-sets (replicate 16 noComponent) cs h
+
+-- The first places of an object array made from at most 16 object records are those.
+pub records-pack : (os : List Object) → length os ≤ 16 → take (length os) (packObjects os) ≡ os
+unfolding packObjects
+records-pack os h = take-sets (replicate 16 noObject) os h

@@ -9,3 +9,4 @@ pub mod FactLaws
 pub mod PrefixLaws
 pub mod HolderLaws
 pub mod RecordLaws
+pub mod Rows

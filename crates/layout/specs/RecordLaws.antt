@@ -1,17 +1,13 @@
 -- A list packed into the places of an array is read back as it was.
-use Prim.Native.Nat.{ℕ, _+_, _≤_}
+use Prim.Native.Nat.{ℕ, _≤_}
 use mathlib.Core.Path.{_≡_}
 use mathlib.Core.List.{List}
-use native.Mathlib.Omega.{arith}
-use lib.ListN.{length, take, drop, replicate}
-use lib.Seq.{sets, length-sets, sets-eq, take-append-seam}
+use lib.ListN.{length, take, replicate}
+use lib.Seq.{length-sets}
+use Rattle.lists.specs.Slices.{take-sets}
 use Rattle.layout.specs.declared.Object.{Object}
 use Rattle.layout.specs.declared.Component.{Component}
 use Rattle.layout.specs.Records.{noObject, noComponent, view, packObjects, packComponents, pack}
-
--- A list stored from the first place of a list that is at least as long stands in its first places.
-take-sets : {A : Type 0} (l v : List A) → length v ≤ length l → take (length v) (sets l 0 v) ≡ v
-take-sets l v h = rw (sets-eq v l 0 (omega arith)) (take-append-seam v (drop (0 + length v) l))
 
 -- A component array always has 16 places.
 pub pack-components-length : (cs : List Component) → length (packComponents cs) ≡ 16

@@ -2,6 +2,7 @@
 ghost use mathlib.Core.Path.{_≡_};
 ghost use Rattle.layout.specs.Records.{fromParts};
 
+pub mod distinct;
 pub mod fields;
 pub mod neighbours;
 

@@ -73,3 +73,15 @@ module _ {A : Type 0} (same : A → A → Bool) (l : List A) (n i : ℕ) where
 
   pub scan-done : n ≤ i → i + firstFailed (along (unseen same) seenWith (take i l) (slice i n l)) ≡ i
   scan-done h = along-done l n i (unseen same) seenWith (take i l) h
+
+-- A row of the scan: does x equal one of the elements from j up to i?
+module _ {A : Type 0} (same : A → A → Bool) (l : List A) (i j : ℕ) (x : A) where
+  module _ (d : A) (h : j < i) (k : j < length l) where
+    pub row-pass : same x (getD l j d) ≡ false → elem same x (slice j i l) ≡ elem same x (slice (j + 1) i l)
+    row-pass e = rw (slice-next l i j d h k, e)
+
+    pub row-hit : same x (getD l j d) ≡ true → elem same x (slice j i l) ≡ true
+    row-hit e = rw (slice-next l i j d h k, e)
+
+  pub row-done : i ≤ j → elem same x (slice j i l) ≡ false
+  row-done h = rw (slice-done l i j h)

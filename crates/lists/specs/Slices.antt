@@ -6,7 +6,7 @@ use native.Mathlib.Omega.{arith}
 use native.Mathlib.Numerals.{add-one}
 use native.Mathlib.Nat.{add-zero, add-suc, suc-add}
 use lib.ListN.{length, getD, take, drop, set, length-take, length-map, drop-of-length-le}
-use lib.Seq.{slice, sets, drop-cons, getD-take, take-suc}
+use lib.Seq.{slice, sets, drop-cons, getD-take, take-suc, sets-eq, take-append-seam}
 
 module _ {A : Type 0} (l : List A) (n i : ℕ) where
   pub slice-next : (d : A) → i < n → i < length l → slice i n l ≡ getD l i d ∷ slice (i + 1) n l
@@ -29,3 +29,13 @@ sets-append l i (x ∷ a) b = rw (add-suc, ← suc-add i (length a)) (sets-appen
 -- The length of a list, told of the list mapped.
 pub unmapped : {A B : Type 0} (l : List A) (g : A → B) {n : ℕ} → length (map g l) ≡ n → length l ≡ n
 unmapped l g e = sym (length-map l g) ∙ e
+
+-- A run of stores from place at + j on: the first of them, and the rest from at + (j + 1) on.
+pub sets-next : {A : Type 0} (l : List A) (at j : ℕ) (x : A) (xs : List A) → sets l (at + j) (x ∷ xs) ≡ sets (set l (at + j) x) (at + (j + 1)) xs
+sets-next {A} l at j x xs =
+    let e : suc (at + j) ≡ at + (j + 1) = omega arith in
+    ap (λ (k : ℕ). sets (set l (at + j) x) k xs) e
+
+-- A list stored from the first place of a list that is at least as long stands in its first places.
+pub take-sets : {A : Type 0} (l v : List A) → length v ≤ length l → take (length v) (sets l 0 v) ≡ v
+take-sets l v h = rw (sets-eq v l 0 (omega arith)) (take-append-seam v (drop (0 + length v) l))

@@ -6,7 +6,9 @@ use mathlib.Core.List.{List, [], _∷_, _++_}
 use mathlib.Core.Bool.{Bool, true, false, cond, _&&_, true≢false, false≢true}
 use native.Mathlib.Omega.{arith}
 use native.Mathlib.Nat.{suc-add}
+use lib.Dec.{eqb}
 use lib.ListN.{length, getD, take, drop}
+use borrow.Author.Tests.{eq-eqb, ne-eqb}
 use Rattle.lists.specs.Bools.{bool-cases, both-true, true-both, clash}
 
 -- Do all tests pass?
@@ -58,6 +60,11 @@ pub every-failed : (ts : List Bool) → every ts ≡ true → firstFailed ts ≡
 every-failed [] e = refl
 every-failed (true ∷ ts) e = ap suc (every-failed ts e)
 every-failed (false ∷ ts) e = absurd (false≢true e)
+
+pub failed-every : (ts : List Bool) → eqb (firstFailed ts) (length ts) ≡ every ts
+failed-every ts = bool-cases (every ts)
+    (λ e. rw e (eq-eqb (firstFailed ts) (length ts) (every-failed ts e)))
+    (λ e. rw e (ne-eqb (firstFailed ts) (length ts) (λ h. clash (none-failed ts (omega arith)) e)))
 
 -- Tests that are known to pass may be passed over.
 pub failed-skip : (k : ℕ) (ts : List Bool) → k ≤ length ts → every (take k ts) ≡ true → firstFailed ts ≡ k + firstFailed (drop k ts)

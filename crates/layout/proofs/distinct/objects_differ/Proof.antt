@@ -1,0 +1,58 @@
+use Prim.Native.Nat.{ℕ, _+_, _≤_}
+use mathlib.Core.Path.{_≡_, refl, sym, ap, _∙_}
+use mathlib.Core.Bool.{true}
+use mathlib.Core.List.{List}
+use native.Mathlib.Omega.{arith}
+use lib.Dec.{eqb}
+use lib.ListN.{length, take, replicate}
+use lib.Seq.{take-take}
+use Rattle.lists.specs.Tests.{every, firstFailed, length-along, failed-every}
+use Rattle.lists.specs.Counting.{fresh, unseen, seenWith}
+use Rattle.layout.specs.declared.Object.{Object}
+use Rattle.layout.specs.declared.Component.{Component}
+use Rattle.layout.specs.Records.{recordsIn, view}
+use Rattle.layout.specs.Rows.{named}
+use Rattle.layout.specs.Distinct.{sameObject, objectTests}
+use Rattle.layout.proofs.Gathered.{gathered, gathered-length}
+use borrow.Author.Needs.{needs}
+use Rattle.layout.proofs.distinct.objects_differ.Statement.{statement}
+use Rattle.layout.proofs.distinct.objects_differ.Tie as tie
+
+-- The rows hold the object records of the layout.
+rows : (c : tie.After-numbers5) → take (c .before .before .before .before .put-all2 .result)
+    (named (c .before .before .before .before .put-all2 .last .1 .1 .1 .1 .0) (c .before .before .before .before .put-all2 .last .1 .1 .1 .1 .1 .0))
+    ≡ recordsIn (view (c .before .before .before .before .before .before .before .before .before .before .before .before .args .l))
+rows c =
+    let two = c .before .before .before .before .put-all2 in
+    let one = c .before .before .before .before .before .before .before .before .before .put-all in
+    let s = c .before .before .before .before .before .before .before .before .before .before .before .before in
+    let l = s .args .l in
+    gathered (l .components) (s .args .from) (l .count) (one .result) (two .result) (s .pre .0) (one .ensures .0) (two .ensures .0)
+    (replicate 256 0) (replicate 256 0) (one .last .1 .1 .1 .1 .0) (one .last .1 .1 .1 .1 .1 .0) (two .last .1 .1 .1 .1 .0) (two .last .1 .1 .1 .1 .1 .0)
+    (omega (arith, two .ensures .1)) (omega (arith, two .ensures .1))
+    (one .ensures .2) (one .ensures .3) (two .ensures .2) (two .ensures .3)
+
+object-repeat-requires : tie.Need-object-repeat-requires
+object-repeat-requires c κs =
+    let two = c .before .before .before .before .put-all2 in
+    let one = c .before .before .before .before .before .before .before .before .before .put-all in
+    let s = c .before .before .before .before .before .before .before .before .before .before .before .before in
+    let l = s .args .l in
+    let e = take-take (s .args .from) (l .count) (l .components) (s .pre .0) in
+    let k : one .result ≡ length (recordsIn (take (s .args .from) (l .components))) = omega (arith, one .ensures .0) in
+    (omega arith, omega arith, omega (arith, one .ensures .0, two .ensures .0),
+    rw (rows c, k) (rw e at (s .pre .2)))
+
+returns : tie.Need-returns
+returns c =
+    let two = c .before .before .before .before .before .put-all2 in
+    let one = c .before .before .before .before .before .before .before .before .before .before .put-all in
+    let s = c .before .before .before .before .before .before .before .before .before .before .before .before .before in
+    let l = s .args .l in
+    let r = c .object-repeat .ensures ∙ ap (λ (os : List Object). firstFailed (fresh sameObject os)) (rows (c .before)) in
+    let n = gathered-length (l .components) (s .args .from) (l .count) (one .result) (two .result) (s .pre .0) (one .ensures .0) (two .ensures .0)
+        ∙ sym (length-along (unseen sameObject) seenWith _ (recordsIn (view l))) in
+    rw (r, n) (failed-every (objectTests (view l)))
+
+pub objects-differ-spec : {M : Type 1} → statement M
+objects-differ-spec = tie.close (tie.spec (λ c. search needs) (λ c. search needs) (λ c κs. search needs) (λ c. search needs) (λ c. search needs) (λ c κs. search needs) (λ c. search needs) (λ c. search needs) object-repeat-requires returns)

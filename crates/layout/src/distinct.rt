@@ -1,0 +1,111 @@
+// Distinctness (refusal 8): ids, and object records anywhere in the layout. The object records are gathered once into two dense
+// rows, of targets and of numbers, and the rows are scanned.
+use crate::Component;
+use crate::Layout;
+use crate::fields;
+ghost use mathlib.Core.Path.{_≡_};
+ghost use mathlib.Core.Bool.{true};
+ghost use Prim.Native.Nat.{_+_, _*_, _≤_};
+ghost use lib.ListN.{length, take};
+ghost use lib.Seq.{sets, slice};
+ghost use Rattle.lists.specs.Tests.{every, firstFailed};
+ghost use Rattle.lists.specs.Counting.{fresh};
+ghost use Rattle.layout.specs.Records.{view, recordsOf, recordsIn};
+ghost use Rattle.layout.specs.Rows.{targetsOf, numbersOf, objectOf, named};
+ghost use Rattle.layout.specs.Distinct.{sameObject, idTests, objectTests};
+
+// The position of the first component whose id stands before it, or the count. The tests of the first `from` are known to pass.
+pub fn id_fault(l: Layout, from: usize) -> usize
+    requires { ⌜ (from ≤ l .count) × (l .count ≤ 16) × (every (take from (idTests (view l))) ≡ true) ⌝ }
+    ensures { λ r. ⌜ r ≡ firstFailed (idTests (view l)) ⌝ }
+{
+    let n = l.count;
+    let mut i = from;
+    'scan: while i < n {
+        let c = l.components[i];
+        let mut j: usize = 0;
+        while j < i {
+            let d = l.components[j];
+            if c.id == d.id {
+                break 'scan;
+            }
+            j += 1;
+        }
+        i += 1;
+    }
+    i
+}
+
+// Do two object records name the same target and number?
+pub fn same_object(target: u32, number: u64, other_target: u32, other_number: u64) -> bool
+    ensures { λ r. ⌜ r ≡ sameObject (objectOf target number) (objectOf «other_target» «other_number») ⌝ }
+{
+    (target == other_target) & (number == other_number)
+}
+
+// The position of the first of n object records that names the target and number of one before it, or n. The tests of the first
+// `from` are known to pass.
+pub fn object_repeat(targets: &[u32], numbers: &[u64], n: usize, from: usize) -> usize
+    requires { ⌜ (n ≤ length (now targets)) × (n ≤ length (now numbers)) × (from ≤ n) × (every (take from (fresh sameObject (take n (named (now targets) (now numbers))))) ≡ true) ⌝ }
+    ensures { λ r. ⌜ r ≡ firstFailed (fresh sameObject (take n (named (now (targets .entry)) (now (numbers .entry))))) ⌝ }
+{
+    let mut i = from;
+    'scan: while i < n {
+        let target = targets[i];
+        let number = numbers[i];
+        let mut j: usize = 0;
+        while j < i {
+            if same_object(target, number, targets[j], numbers[j]) {
+                break 'scan;
+            }
+            j += 1;
+        }
+        i += 1;
+    }
+    i
+}
+
+// Copies the object records of a component to the rows, from place `at` on; gives the place behind them.
+pub fn put_records(c: Component, at: usize, targets: &mut [u32], numbers: &mut [u64]) -> usize
+    requires { ⌜ (at + 16 ≤ length (now targets)) × (at + 16 ≤ length (now numbers)) ⌝ }
+    ensures { λ r. ⌜ (r ≡ at + length (recordsOf c)) × (r ≤ at + 16) × (now (targets .exit) ≡ sets (now (targets .entry)) at (targetsOf (recordsOf c))) × (now (numbers .exit) ≡ sets (now (numbers .entry)) at (numbersOf (recordsOf c))) ⌝ }
+{
+    let n = fields::record_count(c);
+    let objects = c.objects;
+    let mut j: usize = 0;
+    while j < n {
+        let o = objects[j];
+        targets[at + j] = o.target;
+        numbers[at + j] = o.number;
+        j += 1;
+    }
+    at + n
+}
+
+// Copies the object records of the components from `first` up to `end` to the rows, from place `at` on; gives the place behind
+// them.
+pub fn put_all(l: Layout, first: usize, end: usize, at: usize, targets: &mut [u32], numbers: &mut [u64]) -> usize
+    requires { ⌜ (first ≤ end) × (end ≤ 16) × (at ≤ 16 * first) × (length (now targets) ≡ 256) × (length (now numbers) ≡ 256) ⌝ }
+    ensures { λ r. ⌜ (r ≡ at + length (recordsIn (slice first end (l .components)))) × (r ≤ 16 * end) × (now (targets .exit) ≡ sets (now (targets .entry)) at (targetsOf (recordsIn (slice first end (l .components))))) × (now (numbers .exit) ≡ sets (now (numbers .entry)) at (numbersOf (recordsIn (slice first end (l .components))))) ⌝ }
+{
+    let mut p = at;
+    let mut i = first;
+    while i < end {
+        p = put_records(l.components[i], p, targets, numbers);
+        i += 1;
+    }
+    p
+}
+
+// Do all object records of the layout differ? Those of the first `from` components are known to.
+pub fn objects_differ(l: Layout, from: usize) -> bool
+    requires { ⌜ (from ≤ l .count) × (l .count ≤ 16) × (every (take (length (recordsIn (take from (view l)))) (objectTests (view l))) ≡ true) ⌝ }
+    ensures { λ r. ⌜ r ≡ every (objectTests (view l)) ⌝ }
+{
+    let n = l.count;
+    let mut targets = [0u32; 256];
+    let mut numbers = [0u64; 256];
+    let known = put_all(l, 0, from, 0, &mut targets, &mut numbers);
+    let all = put_all(l, from, n, known, &mut targets, &mut numbers);
+    object_repeat(&targets, &numbers, all, known) == all
+}

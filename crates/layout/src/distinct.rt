@@ -12,7 +12,8 @@ ghost use Rattle.lists.specs.Tests.{every, firstFailed};
 ghost use Rattle.lists.specs.Counting.{fresh};
 ghost use Rattle.layout.specs.Records.{view, recordsOf, recordsIn};
 ghost use Rattle.layout.specs.Rows.{targetsOf, numbersOf, objectOf, named};
-ghost use Rattle.layout.specs.Distinct.{sameObject, idTests, objectTests};
+ghost use Rattle.layout.specs.Distinct.{sameObject, idTests, objectTests, distinctHold};
+ghost use Rattle.layout.specs.Rules.{ruleBroken};
 
 // The position of the first component whose id stands before it, or the count. The tests of the first `from` are known to pass.
 pub fn id_fault(l: Layout, from: usize) -> usize
@@ -108,4 +109,14 @@ pub fn objects_differ(l: Layout, from: usize) -> bool
     let known = put_all(l, 0, from, 0, &mut targets, &mut numbers);
     let all = put_all(l, from, n, known, &mut targets, &mut numbers);
     object_repeat(&targets, &numbers, all, known) == all
+}
+
+// Does the rule of distinctness hold? The first `from` components are known to break no rule.
+pub fn distinct_hold(l: Layout, from: usize) -> bool
+    requires { ⌜ (from ≤ l .count) × (l .count ≤ 16) × (ruleBroken true (take from (view l)) ≡ 0) ⌝ }
+    ensures { λ r. ⌜ r ≡ distinctHold (view l) ⌝ }
+{
+    let n = l.count;
+    let ids = id_fault(l, from) == n;
+    ids & objects_differ(l, from)
 }

@@ -10,6 +10,7 @@ ghost use lib.ListN.{length, take};
 ghost use Rattle.lists.specs.Tests.{every, each, firstFailed};
 ghost use Rattle.layout.specs.Records.{recordsOf, recordCount, view};
 ghost use Rattle.layout.specs.Fields.{isUnit, extensionOk, stripedOk, kindOk, isMinusOne, isTarget, firstTargetOk, targetOk, fieldsOk, fieldTests};
+ghost use Rattle.layout.specs.Rules.{ruleBroken};
 
 // Is n a nonzero multiple of 65,536?
 pub fn is_unit(n: u64) -> bool
@@ -139,4 +140,13 @@ pub fn field_fault(l: Layout, from: usize) -> usize
         i += 1;
     }
     i
+}
+
+// Do all components keep the rules of the fields? The first `from` are known to break no rule with pages outstanding.
+pub fn fields_hold(l: Layout, from: usize) -> bool
+    requires { ⌜ (from ≤ l .count) × (l .count ≤ 16) × (ruleBroken true (take from (view l)) ≡ 0) ⌝ }
+    ensures { λ r. ⌜ r ≡ every (fieldTests (view l)) ⌝ }
+{
+    let n = l.count;
+    field_fault(l, from) == n
 }

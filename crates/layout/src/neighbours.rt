@@ -3,12 +3,13 @@
 use crate::Layout;
 ghost use mathlib.Core.Path.{_≡_};
 ghost use mathlib.Core.Bool.{true, false, not, _||_, Bool·beq};
-ghost use Prim.Native.Nat.{_≤_};
+ghost use Prim.Native.Nat.{_-_, _≤_};
 ghost use lib.Dec.{eqb};
 ghost use lib.ListN.{take};
 ghost use Rattle.lists.specs.Tests.{every, firstFailed, after};
 ghost use Rattle.layout.specs.Records.{view};
-ghost use Rattle.layout.specs.Neighbours.{endOf, mayFollow, beginTests, followTests, emptyTests, lastTests};
+ghost use Rattle.layout.specs.Neighbours.{endOf, mayFollow, beginTests, followTests, emptyTests, lastTests, neighboursHold};
+ghost use Rattle.layout.specs.Rules.{ruleBroken};
 
 // Where the component before position i ends: 0 for the first.
 pub fn end_before(l: Layout, i: usize) -> u64
@@ -126,4 +127,27 @@ pub fn last_fault(l: Layout, more: bool) -> usize
         return k;
     }
     n
+}
+
+// One less, but not below 0.
+fn one_less(k: usize) -> usize
+    ensures { λ r. ⌜ r ≡ k - 1 ⌝ }
+{
+    if k == 0 {
+        return 0;
+    }
+    k - 1
+}
+
+// Do the neighbour rules hold? The first `from` components are known to break no rule with pages outstanding.
+pub fn neighbours_hold(l: Layout, more: bool, from: usize) -> bool
+    requires { ⌜ (from ≤ l .count) × (l .count ≤ 16) × (ruleBroken true (take from (view l)) ≡ 0) ⌝ }
+    ensures { λ r. ⌜ r ≡ neighboursHold more (view l) ⌝ }
+{
+    let n = l.count;
+    let begins = begin_fault(l, from) == n;
+    let follows = follow_fault(l, from) == n;
+    let empties = empty_fault(l, one_less(from)) == n;
+    let last = last_fault(l, more) == n;
+    begins & follows & empties & last
 }

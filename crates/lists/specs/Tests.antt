@@ -61,10 +61,10 @@ every-failed [] e = refl
 every-failed (true ∷ ts) e = ap suc (every-failed ts e)
 every-failed (false ∷ ts) e = absurd (false≢true e)
 
-pub failed-every : (ts : List Bool) → eqb (firstFailed ts) (length ts) ≡ every ts
-failed-every ts = bool-cases (every ts)
-    (λ e. rw e (eq-eqb (firstFailed ts) (length ts) (every-failed ts e)))
-    (λ e. rw e (ne-eqb (firstFailed ts) (length ts) (λ h. clash (none-failed ts (omega arith)) e)))
+pub failed-every : (ts : List Bool) (r n : ℕ) → r ≡ firstFailed ts → length ts ≡ n → eqb r n ≡ every ts
+failed-every ts r n p q = bool-cases (every ts)
+    (λ e. rw e (eq-eqb r n (p ∙ every-failed ts e ∙ q)))
+    (λ e. rw e (ne-eqb r n (λ h. clash (none-failed ts (omega arith)) e)))
 
 -- Tests that are known to pass may be passed over.
 pub failed-skip : (k : ℕ) (ts : List Bool) → k ≤ length ts → every (take k ts) ≡ true → firstFailed ts ≡ k + firstFailed (drop k ts)

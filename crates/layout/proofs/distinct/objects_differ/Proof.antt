@@ -52,7 +52,7 @@ returns c =
     let r = c .object-repeat .ensures ∙ ap (λ (os : List Object). firstFailed (fresh sameObject os)) (rows (c .before)) in
     let n = gathered-length (l .components) (s .args .from) (l .count) (one .result) (two .result) (s .pre .0) (one .ensures .0) (two .ensures .0)
         ∙ sym (length-along (unseen sameObject) seenWith _ (recordsIn (view l))) in
-    rw (r, n) (failed-every (objectTests (view l)))
+    failed-every (objectTests (view l)) (c .object-repeat .result) (two .result) r (sym n)
 
 pub objects-differ-spec : {M : Type 1} → statement M
 objects-differ-spec = tie.close (tie.spec (λ c. search needs) (λ c. search needs) (λ c κs. search needs) (λ c. search needs) (λ c. search needs) (λ c κs. search needs) (λ c. search needs) (λ c. search needs) object-repeat-requires returns)

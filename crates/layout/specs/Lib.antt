@@ -3,6 +3,7 @@ pub mod Fields
 pub mod Neighbours
 pub mod Distinct
 pub mod Rules
+pub mod Known
 pub mod Holder
 pub mod Facts
 pub mod FactLaws

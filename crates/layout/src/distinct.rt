@@ -1,5 +1,5 @@
-// Distinctness (refusal 8): ids, and object records anywhere in the layout. The object records are gathered once into two dense
-// rows, of targets and of numbers, and the rows are scanned.
+// Distinctness (refusal 8): ids, and object records anywhere in the layout. The object records are gathered once into
+// two dense rows, of targets and of numbers, and the rows are scanned.
 use crate::Component;
 use crate::Layout;
 use crate::fields;
@@ -13,11 +13,12 @@ ghost use Rattle.lists.specs.Counting.{fresh};
 ghost use Rattle.layout.specs.Records.{view, recordsOf, recordsIn};
 ghost use Rattle.layout.specs.Rows.{targetsOf, numbersOf, objectOf, named};
 ghost use Rattle.layout.specs.Distinct.{sameObject, idTests, objectTests, distinctHold};
-ghost use Rattle.layout.specs.Rules.{ruleBroken};
+ghost use Rattle.layout.specs.Known.{Passed, Kept};
 
-// The position of the first component whose id stands before it, or the count. The tests of the first `from` are known to pass.
+// The position of the first component whose id stands before it, or the count. The tests of the first `from` are known
+// to pass.
 pub fn id_fault(l: Layout, from: usize) -> usize
-    requires { ⌜ (from ≤ l .count) × (l .count ≤ 16) × (every (take from (idTests (view l))) ≡ true) ⌝ }
+    requires { ⌜ Passed from l (idTests (view l)) ⌝ }
     ensures { λ r. ⌜ r ≡ firstFailed (idTests (view l)) ⌝ }
 {
     let n = l.count;
@@ -44,32 +45,39 @@ pub fn same_object(target: u32, number: u64, other_target: u32, other_number: u6
     (target == other_target) & (number == other_number)
 }
 
-// The position of the first of n object records that names the target and number of one before it, or n. The tests of the first
-// `from` are known to pass.
+// The position of the first of n object records that names the target and number of one before it, or n. The tests of
+// the first `from` are known to pass.
 pub fn object_repeat(targets: &[u32], numbers: &[u64], n: usize, from: usize) -> usize
-    requires { ⌜ (n ≤ length (now targets)) × (n ≤ length (now numbers)) × (from ≤ n) × (every (take from (fresh sameObject (take n (named (now targets) (now numbers))))) ≡ true) ⌝ }
-    ensures { λ r. ⌜ r ≡ firstFailed (fresh sameObject (take n (named (now (targets .entry)) (now (numbers .entry))))) ⌝ }
+    requires { ⌜ (n ≤ length (now targets))
+        × (n ≤ length (now numbers))
+        × (from ≤ n)
+        × (every (take from (fresh sameObject (take n (named (now targets) (now numbers))))) ≡ true) ⌝ }
+    ensures { λ r. ⌜ r
+        ≡ firstFailed (fresh sameObject (take n (named (now (targets .entry)) (now (numbers .entry))))) ⌝ }
 {
-    let mut i = from;
-    'scan: while i < n {
-        let target = targets[i];
-        let number = numbers[i];
-        let mut j: usize = 0;
-        while j < i {
-            if same_object(target, number, targets[j], numbers[j]) {
+    let mut later = from;
+    'scan: while later < n {
+        let target = targets[later];
+        let number = numbers[later];
+        let mut earlier: usize = 0;
+        while earlier < later {
+            if same_object(target, number, targets[earlier], numbers[earlier]) {
                 break 'scan;
             }
-            j += 1;
+            earlier += 1;
         }
-        i += 1;
+        later += 1;
     }
-    i
+    later
 }
 
 // Copies the object records of a component to the rows, from place `at` on; gives the place behind them.
 pub fn put_records(c: Component, at: usize, targets: &mut [u32], numbers: &mut [u64]) -> usize
     requires { ⌜ (at + 16 ≤ length (now targets)) × (at + 16 ≤ length (now numbers)) ⌝ }
-    ensures { λ r. ⌜ (r ≡ at + length (recordsOf c)) × (r ≤ at + 16) × (now (targets .exit) ≡ sets (now (targets .entry)) at (targetsOf (recordsOf c))) × (now (numbers .exit) ≡ sets (now (numbers .entry)) at (numbersOf (recordsOf c))) ⌝ }
+    ensures { λ r. ⌜ (r ≡ at + length (recordsOf c))
+        × (r ≤ at + 16)
+        × (now (targets .exit) ≡ sets (now (targets .entry)) at (targetsOf (recordsOf c)))
+        × (now (numbers .exit) ≡ sets (now (numbers .entry)) at (numbersOf (recordsOf c))) ⌝ }
 {
     let n = fields::record_count(c);
     let objects = c.objects;
@@ -83,11 +91,26 @@ pub fn put_records(c: Component, at: usize, targets: &mut [u32], numbers: &mut [
     at + n
 }
 
-// Copies the object records of the components from `first` up to `end` to the rows, from place `at` on; gives the place behind
-// them.
-pub fn put_all(l: Layout, first: usize, end: usize, at: usize, targets: &mut [u32], numbers: &mut [u64]) -> usize
-    requires { ⌜ (first ≤ end) × (end ≤ 16) × (at ≤ 16 * first) × (length (now targets) ≡ 256) × (length (now numbers) ≡ 256) ⌝ }
-    ensures { λ r. ⌜ (r ≡ at + length (recordsIn (slice first end (l .components)))) × (r ≤ 16 * end) × (now (targets .exit) ≡ sets (now (targets .entry)) at (targetsOf (recordsIn (slice first end (l .components))))) × (now (numbers .exit) ≡ sets (now (numbers .entry)) at (numbersOf (recordsIn (slice first end (l .components))))) ⌝ }
+// Copies the object records of the components from `first` up to `end` to the rows, from place `at` on; gives the place
+// behind them.
+pub fn put_all(
+    l: Layout,
+    first: usize,
+    end: usize,
+    at: usize,
+    targets: &mut [u32],
+    numbers: &mut [u64],
+) -> usize
+    requires { ⌜ (first ≤ end)
+        × (end ≤ 16)
+        × (at ≤ 16 * first)
+        × (length (now targets) ≡ 256)
+        × (length (now numbers) ≡ 256) ⌝ }
+    ensures { λ r. let os = recordsIn (slice first end (l .components)) in
+        ⌜ (r ≡ at + length os)
+        × (r ≤ 16 * end)
+        × (now (targets .exit) ≡ sets (now (targets .entry)) at (targetsOf os))
+        × (now (numbers .exit) ≡ sets (now (numbers .entry)) at (numbersOf os)) ⌝ }
 {
     let mut p = at;
     let mut i = first;
@@ -100,7 +123,9 @@ pub fn put_all(l: Layout, first: usize, end: usize, at: usize, targets: &mut [u3
 
 // Do all object records of the layout differ? Those of the first `from` components are known to.
 pub fn objects_differ(l: Layout, from: usize) -> bool
-    requires { ⌜ (from ≤ l .count) × (l .count ≤ 16) × (every (take (length (recordsIn (take from (view l)))) (objectTests (view l))) ≡ true) ⌝ }
+    requires { ⌜ (from ≤ l .count)
+        × (l .count ≤ 16)
+        × (every (take (length (recordsIn (take from (view l)))) (objectTests (view l))) ≡ true) ⌝ }
     ensures { λ r. ⌜ r ≡ every (objectTests (view l)) ⌝ }
 {
     let n = l.count;
@@ -113,7 +138,7 @@ pub fn objects_differ(l: Layout, from: usize) -> bool
 
 // Does the rule of distinctness hold? The first `from` components are known to break no rule.
 pub fn distinct_hold(l: Layout, from: usize) -> bool
-    requires { ⌜ (from ≤ l .count) × (l .count ≤ 16) × (ruleBroken true (take from (view l)) ≡ 0) ⌝ }
+    requires { ⌜ Kept from l ⌝ }
     ensures { λ r. ⌜ r ≡ distinctHold (view l) ⌝ }
 {
     let n = l.count;

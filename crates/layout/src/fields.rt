@@ -9,8 +9,9 @@ ghost use lib.Dec.{eqb};
 ghost use lib.ListN.{length, take};
 ghost use Rattle.lists.specs.Tests.{every, each, firstFailed};
 ghost use Rattle.layout.specs.Records.{recordsOf, recordCount, view};
-ghost use Rattle.layout.specs.Fields.{isUnit, extensionOk, stripedOk, kindOk, isMinusOne, isTarget, firstTargetOk, targetOk, fieldsOk, fieldTests};
-ghost use Rattle.layout.specs.Rules.{ruleBroken};
+ghost use Rattle.layout.specs.Fields.{isUnit, extensionOk, stripedOk, kindOk, isMinusOne, isTarget};
+ghost use Rattle.layout.specs.Fields.{firstTargetOk, targetOk, fieldsOk, fieldTests};
+ghost use Rattle.layout.specs.Known.{Passed, Kept};
 
 // Is n a nonzero multiple of 65,536?
 pub fn is_unit(n: u64) -> bool
@@ -34,7 +35,15 @@ pub fn striped_ok(init: bool, begin: u64, end: u64, count: u16, size: u32, exten
 }
 
 // The same for either kind of component.
-pub fn kind_ok(is_extension: bool, init: bool, begin: u64, end: u64, count: u16, size: u32, extension: u64) -> bool
+pub fn kind_ok(
+    is_extension: bool,
+    init: bool,
+    begin: u64,
+    end: u64,
+    count: u16,
+    size: u32,
+    extension: u64,
+) -> bool
     ensures { λ r. ⌜ r ≡ kindOk «is_extension» init begin end count size extension ⌝ }
 {
     if is_extension {
@@ -62,7 +71,10 @@ pub fn is_target(z: i32, target: u32) -> bool
 
 // How many object records the component's array holds: its stripe count where it is init, at most 16.
 pub fn record_count(c: Component) -> usize
-    ensures { λ r. ⌜ (r ≤ 16) × (length (c .objects) ≡ 16) × (r ≡ length (recordsOf c)) × (take r (c .objects) ≡ recordsOf c) ⌝ }
+    ensures { λ r. ⌜ (r ≤ 16)
+        × (length (c .objects) ≡ 16)
+        × (r ≡ length (recordsOf c))
+        × (take r (c .objects) ≡ recordsOf c) ⌝ }
 {
     if c.init {
         if c.stripe_count < 16 {
@@ -111,8 +123,21 @@ pub fn fields_ok(c: Component) -> bool
 {
     let n = record_count(c);
     let objects = c.objects;
-    let kind = kind_ok(c.extension, c.init, c.begin, c.end, c.stripe_count, c.stripe_size, c.extension_size);
-    (1 <= c.id) & (c.begin <= c.end) & !(c.init & c.extension) & kind & first_target_ok(c) & targets_ok(objects, n)
+    let kind = kind_ok(
+        c.extension,
+        c.init,
+        c.begin,
+        c.end,
+        c.stripe_count,
+        c.stripe_size,
+        c.extension_size,
+    );
+    (1 <= c.id)
+        & (c.begin <= c.end)
+        & !(c.init & c.extension)
+        & kind
+        & first_target_ok(c)
+        & targets_ok(objects, n)
         & has_count(c.init, c.stripe_count, n)
 }
 
@@ -126,9 +151,10 @@ pub fn has_count(init: bool, stripe_count: u16, n: usize) -> bool
     n == 0
 }
 
-// The position of the first component that breaks the rules of the fields, or the count. The first `from` are known to keep them.
+// The position of the first component that breaks the rules of the fields, or the count. The first `from` are known to
+// keep them.
 pub fn field_fault(l: Layout, from: usize) -> usize
-    requires { ⌜ (from ≤ l .count) × (l .count ≤ 16) × (every (take from (fieldTests (view l))) ≡ true) ⌝ }
+    requires { ⌜ Passed from l (fieldTests (view l)) ⌝ }
     ensures { λ r. ⌜ r ≡ firstFailed (fieldTests (view l)) ⌝ }
 {
     let n = l.count;
@@ -144,7 +170,7 @@ pub fn field_fault(l: Layout, from: usize) -> usize
 
 // Do all components keep the rules of the fields? The first `from` are known to break no rule with pages outstanding.
 pub fn fields_hold(l: Layout, from: usize) -> bool
-    requires { ⌜ (from ≤ l .count) × (l .count ≤ 16) × (ruleBroken true (take from (view l)) ≡ 0) ⌝ }
+    requires { ⌜ Kept from l ⌝ }
     ensures { λ r. ⌜ r ≡ every (fieldTests (view l)) ⌝ }
 {
     let n = l.count;

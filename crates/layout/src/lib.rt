@@ -5,6 +5,7 @@ ghost use Prim.Native.Nat.{_≤_};
 ghost use lib.ListN.{take};
 ghost use Rattle.layout.specs.Records.{fromParts, view};
 ghost use Rattle.layout.specs.Rules.{ruleBroken, valid};
+ghost use Rattle.layout.specs.Known.{Kept};
 ghost use Rattle.layout.specs.Holder.{holderOf};
 
 pub mod distinct;
@@ -17,8 +18,8 @@ pub struct Object {
     pub number: u64,
 }
 
-// A component: its extent [begin, end) in bytes of the file, how it is striped, and, where it is init, an object record for
-// each stripe in the first places of `objects`.
+// A component: its extent [begin, end) in bytes of the file, how it is striped, and, where it is init, an object record
+// for each stripe in the first places of `objects`.
 pub struct Component {
     pub init: bool,
     pub extension: bool,
@@ -50,10 +51,11 @@ pub fn layout_of_parts(generation: u32, count: usize, components: [Component; 16
     }
 }
 
-// The number of the first component rule that the layout's components break, 6, 7 or 8, or 0. `more` says that pages are
-// outstanding. The first `from` components are known to break no rule with pages outstanding, and only the rest is asked.
+// The number of the first component rule that the layout's components break, 6, 7 or 8, or 0. `more` says that pages
+// are outstanding. The first `from` components are known to break no rule with pages outstanding, and only the rest is
+// asked.
 pub fn rule_broken(l: Layout, more: bool, from: usize) -> u8
-    requires { ⌜ (from ≤ l .count) × (l .count ≤ 16) × (ruleBroken true (take from (view l)) ≡ 0) ⌝ }
+    requires { ⌜ Kept from l ⌝ }
     ensures { λ r. ⌜ r ≡ ruleBroken more (view l) ⌝ }
 {
     if !fields::fields_hold(l, from) {

@@ -1,5 +1,5 @@
-// The neighbour rules (refusal 7), in their four parts. Each part gives the position of its first fault, or the count; the tests
-// of the first `from` components are known to pass and are not asked again.
+// The neighbour rules (refusal 7), in their four parts. Each part gives the position of its first fault, or the count;
+// the tests of the first `from` components are known to pass and are not asked again.
 use crate::Layout;
 ghost use mathlib.Core.Path.{_≡_};
 ghost use mathlib.Core.Bool.{true, false, not, _||_, Bool·beq};
@@ -8,8 +8,9 @@ ghost use lib.Dec.{eqb};
 ghost use lib.ListN.{take};
 ghost use Rattle.lists.specs.Tests.{every, firstFailed, after};
 ghost use Rattle.layout.specs.Records.{view};
-ghost use Rattle.layout.specs.Neighbours.{endOf, mayFollow, beginTests, followTests, emptyTests, lastTests, neighboursHold};
-ghost use Rattle.layout.specs.Rules.{ruleBroken};
+ghost use Rattle.layout.specs.Neighbours.{endOf, mayFollow, beginTests, followTests, emptyTests, lastTests};
+ghost use Rattle.layout.specs.Neighbours.{neighboursHold};
+ghost use Rattle.layout.specs.Known.{Passed, Kept};
 
 // Where the component before position i ends: 0 for the first.
 pub fn end_before(l: Layout, i: usize) -> u64
@@ -39,7 +40,7 @@ pub fn may_before(l: Layout, i: usize) -> bool
 
 // The first component that does not begin where the one before it ends, the first of all at 0.
 pub fn begin_fault(l: Layout, from: usize) -> usize
-    requires { ⌜ (from ≤ l .count) × (l .count ≤ 16) × (every (take from (beginTests (view l))) ≡ true) ⌝ }
+    requires { ⌜ Passed from l (beginTests (view l)) ⌝ }
     ensures { λ r. ⌜ r ≡ firstFailed (beginTests (view l)) ⌝ }
 {
     let n = l.count;
@@ -58,7 +59,7 @@ pub fn begin_fault(l: Layout, from: usize) -> usize
 
 // The first extension that does not directly follow a component that is not one.
 pub fn follow_fault(l: Layout, from: usize) -> usize
-    requires { ⌜ (from ≤ l .count) × (l .count ≤ 16) × (every (take from (followTests (view l))) ≡ true) ⌝ }
+    requires { ⌜ Passed from l (followTests (view l)) ⌝ }
     ensures { λ r. ⌜ r ≡ firstFailed (followTests (view l)) ⌝ }
 {
     let n = l.count;
@@ -90,9 +91,10 @@ pub fn empty_ok(init: bool, begin: u64, end: u64, extension_follows: bool) -> bo
     init | (empty == extension_follows)
 }
 
-// The first component, but for the last, that is not init and is empty where no extension follows or the other way round.
+// The first component, but for the last, that is not init and is empty where no extension follows, or not empty where
+// one does.
 pub fn empty_fault(l: Layout, from: usize) -> usize
-    requires { ⌜ (from ≤ l .count) × (l .count ≤ 16) × (every (take from (emptyTests (view l))) ≡ true) ⌝ }
+    requires { ⌜ Passed from l (emptyTests (view l)) ⌝ }
     ensures { λ r. ⌜ r ≡ firstFailed (emptyTests (view l)) ⌝ }
 {
     let n = l.count;
@@ -141,7 +143,7 @@ fn one_less(k: usize) -> usize
 
 // Do the neighbour rules hold? The first `from` components are known to break no rule with pages outstanding.
 pub fn neighbours_hold(l: Layout, more: bool, from: usize) -> bool
-    requires { ⌜ (from ≤ l .count) × (l .count ≤ 16) × (ruleBroken true (take from (view l)) ≡ 0) ⌝ }
+    requires { ⌜ Kept from l ⌝ }
     ensures { λ r. ⌜ r ≡ neighboursHold more (view l) ⌝ }
 {
     let n = l.count;

@@ -73,9 +73,9 @@ module _ {A : Type 0} (same : A → A → Bool) where
         rw (← append-snoc seen a l)
         (fresh-along (seen ++ (a ∷ [])) l (p .1)
         (λ y. bool-cases (same y a)
-            (λ q. let w : count y seen ≡ count a seen = ap (λ (v : A). count v seen) (same-eq y a q) in
-            rw count-append (rw q (omega arith)))
-            (λ q. rw count-append (rw q (omega (arith, h y)))))
+        (λ q. let w : count y seen ≡ count a seen = ap (λ (v : A). count v seen) (same-eq y a q) in
+        rw count-append (rw q (omega arith)))
+        (λ q. rw count-append (rw q (omega (arith, h y)))))
         x)
 
     pub fresh-count : (l : List A) → every (fresh l) ≡ true → (x : A) → count x l ≤ 1

@@ -21,8 +21,8 @@ abbrev pub firstFailed : List Bool → ℕ
 firstFailed [] = 0
 firstFailed (t ∷ ts) = cond t (suc (firstFailed ts)) 0
 
--- One test for each element, along the list: `ok` of a state and the element, and `next` gives the state at the next.
 module _ {S A : Type 0} (ok : S → A → Bool) (next : S → A → S) where
+  -- One test for each element, along the list: `ok` of a state and the element, and `next` gives the state at the next.
   abbrev pub along : S → List A → List Bool
   along s [] = []
   along s (a ∷ l) = ok s a ∷ along (next s a) l

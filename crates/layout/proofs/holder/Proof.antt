@@ -3,7 +3,7 @@ use mathlib.Core.Path.{_≡_, refl, sym, _∙_}
 use mathlib.Core.Bool.{false}
 use native.Mathlib.Omega.{arith}
 use native.Mathlib.Nat.{zero-add, add-zero}
-use lib.ListN.{length, take}
+use lib.ListN.{length, getD}
 use lib.Seq.{slice}
 use borrow.Author.Tests.{lt-ltb, le-ltb}
 use Rattle.lists.specs.Slices.{unmapped, slice-next, slice-done}
@@ -36,7 +36,7 @@ returns c =
     let s = p .before in
     let l = s .args .t1 in
     let h : length (l .components) ≡ 16 = unmapped (l .components) _ (s .good .0 .1 .1 .1 .1 .0 .1 .0 .1) in
-    (sym (p .loop .inv .2 ∙ rw (slice-next (l .components) (l .count) (p .loop .i) unread (c .before .before .before .loop-test .taken) (omega arith), lt-ltb _ _ (c .if1 .taken)) (add-zero _)), omega arith)
+    (sym (p .loop .inv .2 ∙ rw (slice-next (l .components) (l .count) (p .loop .i) unread (c .before .before .before .loop-test .taken) (omega arith), lt-ltb (s .args .offset) (getD (l .components) (p .loop .i) unread .end) (omega arith)) (add-zero _)), omega arith)
 
 loop-again : tie.Need-loop-again Inv-loop μ-loop
 loop-again c =
@@ -44,7 +44,7 @@ loop-again c =
     let s = p .before in
     let l = s .args .t1 in
     let h : length (l .components) ≡ 16 = unmapped (l .components) _ (s .good .0 .1 .1 .1 .1 .0 .1 .0 .1) in
-    (omega arith, p .loop .inv .1, p .loop .inv .2 ∙ rw (slice-next (l .components) (l .count) (p .loop .i) unread (c .before .before .before .loop-test .taken) (omega arith), le-ltb _ _ (c .if1 .left)) (omega arith))
+    (omega arith, p .loop .inv .1, p .loop .inv .2 ∙ rw (slice-next (l .components) (l .count) (p .loop .i) unread (c .before .before .before .loop-test .taken) (omega arith), le-ltb (s .args .offset) (getD (l .components) (p .loop .i) unread .end) (omega arith)) (omega arith))
 
 returns-2 : tie.Need-returns-2 Inv-loop μ-loop
 returns-2 c =

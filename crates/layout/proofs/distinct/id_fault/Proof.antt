@@ -56,9 +56,11 @@ scan-again c =
     let q = p .before .before .before in
     let s = q .before in
     let l = s .args .t1 .components in
-    let h : length l ≡ 16 = unmapped l _ (s .good .0 .1 .1 .1 .1 .0 .1 .0 .1) in
-    (omega arith, q .scan .inv .1 ∙ scan-pass eqb (idsOf l) (s .args .t1 .count) (q .scan .i) 0 (p .before .before .scan-test .taken) (omega (arith, length-ids l))
-    (rw (getD-ids l) (p .loop .inv .1 ∙ row-done eqb (idsOf l) (q .scan .i) (p .loop .j) _ (c .loop-test .left))))
+    let h : length l ≡ 16 = unmapped l _ (s .good .0 .1 .1 .1 .1 .0 .1 .0 .1) in (
+      omega arith,
+      q .scan .inv .1 ∙ scan-pass eqb (idsOf l) (s .args .t1 .count) (q .scan .i) 0 (p .before .before .scan-test .taken) (omega (arith, length-ids l))
+          (rw (getD-ids l) (p .loop .inv .1 ∙ row-done eqb (idsOf l) (q .scan .i) (p .loop .j) _ (c .loop-test .left))),
+    )
 
 returns : tie.Need-returns Inv-loop μ-loop Inv-scan μ-scan
 returns c =

@@ -15,27 +15,29 @@ use Rattle.layout.proofs.distinct.object_repeat.Statement.{statement}
 use Rattle.layout.proofs.distinct.object_repeat.Tie as tie
 
 abbrev Inv-loop : tie.InvT-loop
-Inv-loop targets numbers n from i target number j₀ j =
-    (j ≤ i)
-    × (elem sameObject (objectOf target number) (take i (named targets numbers)) ≡ elem sameObject (objectOf target number) (slice j i (named targets numbers)))
+Inv-loop targets numbers n from later target number earlier₀ earlier =
+    (earlier ≤ later)
+    × (elem sameObject (objectOf target number) (take later (named targets numbers)) ≡ elem sameObject (objectOf target number) (slice earlier later (named targets numbers)))
 
 abbrev μ-loop : tie.MeasureT-loop
-μ-loop targets numbers n from i target number j₀ j = i - j
+μ-loop targets numbers n from later target number earlier₀ earlier = later - earlier
 
 abbrev Inv-scan : tie.InvT-scan
-Inv-scan targets numbers n from i₀ i =
-    (i ≤ n)
-    × (firstFailed (fresh sameObject (take n (named targets numbers))) ≡ i + firstFailed (along (unseen sameObject) seenWith (take i (named targets numbers)) (slice i n (named targets numbers))))
+Inv-scan targets numbers n from later₀ later =
+    (later ≤ n)
+    × (firstFailed (fresh sameObject (take n (named targets numbers))) ≡ later + firstFailed (along (unseen sameObject) seenWith (take later (named targets numbers)) (slice later n (named targets numbers))))
 
 abbrev μ-scan : tie.MeasureT-scan
-μ-scan targets numbers n from i₀ i = n - i
+μ-scan targets numbers n from later₀ later = n - later
 
 scan-holds : tie.Need-scan-holds Inv-loop μ-loop Inv-scan μ-scan
 scan-holds c =
     let s = c .before .before in
-    let a = s .args in
-    (search needs, scan-start sameObject (named (now (a .targets)) (now (a .numbers))) (a .n) (a .from) (s .pre .2)
-    (length-named (now (a .targets)) (now (a .numbers)) (a .n) (s .pre .0) (s .pre .1)) (s .pre .3))
+    let a = s .args in (
+      search needs,
+      scan-start sameObject (named (now (a .targets)) (now (a .numbers))) (a .n) (a .from) (s .pre .2)
+          (length-named (now (a .targets)) (now (a .numbers)) (a .n) (s .pre .0) (s .pre .1)) (s .pre .3),
+    )
 
 loop-holds : tie.Need-loop-holds Inv-loop μ-loop Inv-scan μ-scan
 loop-holds c = (search needs, refl)
@@ -47,11 +49,13 @@ loop-again c =
     let a = q .before .before .before .args in
     let ts = now (a .targets) in
     let ns = now (a .numbers) in
-    let t : p .loop .j < length ts = omega arith in
-    let n : p .loop .j < length ns = omega arith in
-    (omega arith, p .loop .inv .1 ∙ row-pass sameObject (named ts ns) (q .scan .i) (p .loop .j) _ noObject
-    (c .before .before .before .before .loop-test .taken) (length-named ts ns (suc (p .loop .j)) t n)
-    (rw (getD-named ts ns (p .loop .j) t n) (sym (c .before .same-object .ensures) ∙ c .if1 .left)))
+    let t : p .loop .earlier < length ts = omega arith in
+    let n : p .loop .earlier < length ns = omega arith in (
+      omega arith,
+      p .loop .inv .1 ∙ row-pass sameObject (named ts ns) (q .scan .later) (p .loop .earlier) _ noObject
+          (c .before .before .before .before .loop-test .taken) (length-named ts ns (suc (p .loop .earlier)) t n)
+          (rw (getD-named ts ns (p .loop .earlier) t n) (sym (c .before .same-object .ensures) ∙ c .if1 .left)),
+    )
 
 scan-again : tie.Need-scan-again Inv-loop μ-loop Inv-scan μ-scan
 scan-again c =
@@ -60,18 +64,20 @@ scan-again c =
     let a = q .before .before .before .args in
     let ts = now (a .targets) in
     let ns = now (a .numbers) in
-    let t : q .scan .i < length ts = omega arith in
-    let n : q .scan .i < length ns = omega arith in
-    (omega arith, q .scan .inv .1 ∙ scan-pass sameObject (named ts ns) (a .n) (q .scan .i) noObject
-    (p .before .before .before .scan-test .taken) (length-named ts ns (suc (q .scan .i)) t n)
-    (rw (getD-named ts ns (q .scan .i) t n)
-    (p .loop .inv .1 ∙ row-done sameObject (named ts ns) (q .scan .i) (p .loop .j) _ (c .loop-test .left))))
+    let t : q .scan .later < length ts = omega arith in
+    let n : q .scan .later < length ns = omega arith in (
+      omega arith,
+      q .scan .inv .1 ∙ scan-pass sameObject (named ts ns) (a .n) (q .scan .later) noObject
+          (p .before .before .before .scan-test .taken) (length-named ts ns (suc (q .scan .later)) t n)
+          (rw (getD-named ts ns (q .scan .later) t n)
+          (p .loop .inv .1 ∙ row-done sameObject (named ts ns) (q .scan .later) (p .loop .earlier) _ (c .loop-test .left))),
+    )
 
 returns : tie.Need-returns Inv-loop μ-loop Inv-scan μ-scan
 returns c =
     let q = c .before in
     let a = q .before .before .before .args in
-    sym (q .scan .inv .1 ∙ scan-done sameObject (named (now (a .targets)) (now (a .numbers))) (a .n) (q .scan .i) (c .scan-test .left))
+    sym (q .scan .inv .1 ∙ scan-done sameObject (named (now (a .targets)) (now (a .numbers))) (a .n) (q .scan .later) (c .scan-test .left))
 
 returns-2 : tie.Need-returns-2 Inv-loop μ-loop Inv-scan μ-scan
 returns-2 c =
@@ -80,16 +86,16 @@ returns-2 c =
     let a = q .before .before .before .args in
     let ts = now (a .targets) in
     let ns = now (a .numbers) in
-    let t : q .scan .i < length ts = omega arith in
-    let n : q .scan .i < length ns = omega arith in
-    let t' : p .loop .j < length ts = omega arith in
-    let n' : p .loop .j < length ns = omega arith in
-    sym (q .scan .inv .1 ∙ scan-hit sameObject (named ts ns) (a .n) (q .scan .i) noObject
-    (p .before .before .before .scan-test .taken) (length-named ts ns (suc (q .scan .i)) t n)
-    (rw (getD-named ts ns (q .scan .i) t n)
-    (p .loop .inv .1 ∙ row-hit sameObject (named ts ns) (q .scan .i) (p .loop .j) _ noObject
-    (c .before .before .before .before .loop-test .taken) (length-named ts ns (suc (p .loop .j)) t' n')
-    (rw (getD-named ts ns (p .loop .j) t' n') (sym (c .before .same-object .ensures) ∙ c .if1 .taken)))))
+    let t : q .scan .later < length ts = omega arith in
+    let n : q .scan .later < length ns = omega arith in
+    let t' : p .loop .earlier < length ts = omega arith in
+    let n' : p .loop .earlier < length ns = omega arith in
+    sym (q .scan .inv .1 ∙ scan-hit sameObject (named ts ns) (a .n) (q .scan .later) noObject
+    (p .before .before .before .scan-test .taken) (length-named ts ns (suc (q .scan .later)) t n)
+    (rw (getD-named ts ns (q .scan .later) t n)
+    (p .loop .inv .1 ∙ row-hit sameObject (named ts ns) (q .scan .later) (p .loop .earlier) _ noObject
+    (c .before .before .before .before .loop-test .taken) (length-named ts ns (suc (p .loop .earlier)) t' n')
+    (rw (getD-named ts ns (p .loop .earlier) t' n') (sym (c .before .same-object .ensures) ∙ c .if1 .taken)))))
 
 pub object-repeat-spec : {M : Type 1} → statement M
 object-repeat-spec = tie.close (tie.spec Inv-loop μ-loop Inv-scan μ-scan scan-holds (λ c. search needs) (λ c. search needs) (λ c. search needs) (λ c. search needs) loop-holds (λ c. search needs) (λ c. search needs) (λ c. search needs) (λ c. search needs) (λ c κs. search needs) (λ c. search needs) (λ c. search needs) loop-again (λ c. search needs) (λ c. search needs) scan-again returns returns-2)

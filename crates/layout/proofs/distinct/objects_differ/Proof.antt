@@ -39,9 +39,12 @@ object-repeat-requires c κs =
     let s = c .before .before .before .before .before .before .before .before .before .before .before .before in
     let l = s .args .l in
     let e = take-take (s .args .from) (l .count) (l .components) (s .pre .0) in
-    let k : one .result ≡ length (recordsIn (take (s .args .from) (l .components))) = omega (arith, one .ensures .0) in
-    (omega arith, omega arith, omega (arith, one .ensures .0, two .ensures .0),
-    rw (rows c, k) (rw e at (s .pre .2)))
+    let k : one .result ≡ length (recordsIn (take (s .args .from) (l .components))) = omega (arith, one .ensures .0) in (
+      omega arith,
+      omega arith,
+      omega (arith, one .ensures .0, two .ensures .0),
+      rw (rows c, k) (rw e at (s .pre .2)),
+    )
 
 returns : tie.Need-returns
 returns c =
@@ -51,7 +54,7 @@ returns c =
     let l = s .args .l in
     let r = c .object-repeat .ensures ∙ ap (λ (os : List Object). firstFailed (fresh sameObject os)) (rows (c .before)) in
     let n = gathered-length (l .components) (s .args .from) (l .count) (one .result) (two .result) (s .pre .0) (one .ensures .0) (two .ensures .0)
-        ∙ sym (length-along (unseen sameObject) seenWith _ (recordsIn (view l))) in
+    ∙ sym (length-along (unseen sameObject) seenWith _ (recordsIn (view l))) in
     failed-every (objectTests (view l)) (c .object-repeat .result) (two .result) r (sym n)
 
 pub objects-differ-spec : {M : Type 1} → statement M

@@ -34,8 +34,7 @@ loop-again c =
     let h : length l ≡ 16 = unmapped l _ (s .good .0 .1 .1 .1 .1 .0 .1 .0 .1) in
     let x = getD l (p .loop .i) unread in
     let rest = recordsIn (slice (p .loop .i + 1) (s .args .end) l) in
-    let e = slice-next l (s .args .end) (p .loop .i) unread (c .before .before .before .before .before .before .before .before .loop-test .taken) (omega arith) in
-    (
+    let e = slice-next l (s .args .end) (p .loop .i) unread (c .before .before .before .before .before .before .before .before .loop-test .taken) (omega arith) in (
       omega arith,
       omega (arith, q .ensures .1),
       q .kept .1 .1 .0 ∙ p .loop .inv .2,
@@ -50,8 +49,7 @@ returns c =
     let p = c .before in
     let a = p .before .before .before .args in
     let e = slice-done (a .t1 .components) (a .end) (p .loop .i) (c .loop-test .left) in
-    let n : length (recordsIn (slice (p .loop .i) (a .end) (a .t1 .components))) ≡ 0 = rw e in
-    (
+    let n : length (recordsIn (slice (p .loop .i) (a .end) (a .t1 .components))) ≡ 0 = rw e in (
       omega arith,
       omega arith,
       sym (p .loop .inv .5 ∙ rw e),

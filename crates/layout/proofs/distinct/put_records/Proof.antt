@@ -36,8 +36,7 @@ loop-again c =
     let h : p .loop .j < length (a .c .objects) = omega arith in
     let e = slice-next (a .c .objects) (r .result) (p .loop .j) noObject (c .before .loop-test .taken) h in
     let o = getD (a .c .objects) (p .loop .j) noObject in
-    let rest = slice (p .loop .j + 1) (r .result) (a .c .objects) in
-    (
+    let rest = slice (p .loop .j + 1) (r .result) (a .c .objects) in (
       omega arith,
       length-set (p .loop .targets) (a .at + p .loop .j) (o .target) ∙ p .loop .inv .1,
       length-set (p .loop .numbers) (a .at + p .loop .j) (o .number) ∙ p .loop .inv .2,
@@ -51,14 +50,13 @@ returns c =
     let r = p .before .before .record-count in
     let a = p .before .before .before .before .before .args in
     let e = slice-done (a .c .objects) (r .result) (p .loop .j) (c .loop-test .left) in
-    let w = r .ensures .3 in
-    (
+    let w = r .ensures .3 in (
       ap (λ (k : ℕ). a .at + k) (r .ensures .2),
       omega arith,
       sym (ap (λ (os : List Object). sets (now (a .targets)) (a .at) (targetsOf os)) (sym w) ∙ p .loop .inv .3
-        ∙ ap (λ (os : List Object). sets (p .loop .targets) (a .at + p .loop .j) (targetsOf os)) e),
+          ∙ ap (λ (os : List Object). sets (p .loop .targets) (a .at + p .loop .j) (targetsOf os)) e),
       sym (ap (λ (os : List Object). sets (now (a .numbers)) (a .at) (numbersOf os)) (sym w) ∙ p .loop .inv .4
-        ∙ ap (λ (os : List Object). sets (p .loop .numbers) (a .at + p .loop .j) (numbersOf os)) e),
+          ∙ ap (λ (os : List Object). sets (p .loop .numbers) (a .at + p .loop .j) (numbersOf os)) e),
     )
 
 pub put-records-spec : {M : Type 1} → statement M

@@ -38,13 +38,16 @@ returns-2 : tie.Need-returns-2 Inv-loop μ-loop
 returns-2 c =
     let l = c .before .before .args .t1 in
     sym (c .before .loop .inv .1 ∙ ahead-done (l .components) (l .count) (c .before .loop .i) _ (c .loop-test .left))
+
 loop-again : tie.Need-loop-again Inv-loop μ-loop
 loop-again c =
     let p = c .before .before .before .before in
     let l = p .before .args .t1 in
-    let h : length (l .components) ≡ 16 = unmapped (l .components) _ (p .before .good .0 .1 .1 .1 .1 .0 .1 .0 .1) in
-    (omega arith, p .loop .inv .1 ∙ ahead-pass (l .components) (l .count) (p .loop .i) _ unread (c .before .before .before .loop-test .taken) (omega arith)
-    (sym (c .before .fields-ok .ensures) ∙ not-false (c .before .fields-ok .result) (c .if1 .left)))
+    let h : length (l .components) ≡ 16 = unmapped (l .components) _ (p .before .good .0 .1 .1 .1 .1 .0 .1 .0 .1) in (
+      omega arith,
+      p .loop .inv .1 ∙ ahead-pass (l .components) (l .count) (p .loop .i) _ unread (c .before .before .before .loop-test .taken) (omega arith)
+          (sym (c .before .fields-ok .ensures) ∙ not-false (c .before .fields-ok .result) (c .if1 .left)),
+    )
 
 pub field-fault-spec : {M : Type 1} → statement M
 field-fault-spec = tie.close (tie.spec Inv-loop μ-loop loop-holds (λ c. search needs) (λ c. search needs) (λ c κs. search needs) returns (λ c. search needs) (λ c. search needs) loop-again returns-2)

@@ -7,8 +7,14 @@ returns : tie.Need-returns
 unfolding fieldsOk
 returns c =
     let n = c .before .before .before .before .before .before .before .before .record-count in
-    rw (c .has-count .ensures, c .before .targets-ok .ensures, c .before .before .first-target-ok .ensures,
-      c .before .before .before .before .before .before .kind-ok .ensures, n .ensures .3, n .ensures .2)
+    rw (
+      c .has-count .ensures,
+      c .before .targets-ok .ensures,
+      c .before .before .first-target-ok .ensures,
+      c .before .before .before .before .before .before .kind-ok .ensures,
+      n .ensures .3,
+      n .ensures .2,
+    )
 
 pub fields-ok-spec : {M : Type 1} → statement M
 fields-ok-spec = tie.close (tie.spec (λ c κs. search needs) (λ c κs. search needs) (λ c κs. search needs) (λ c κs. search needs) (λ c κs. search needs) returns)

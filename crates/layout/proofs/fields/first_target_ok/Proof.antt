@@ -28,7 +28,7 @@ returns-2 c =
 
 returns-3 : tie.Need-returns-3
 unfolding firstTargetOk
-returns-3 c = 
+returns-3 c =
     let a = c .before .before .before .args .c in
     let e = toZ-ofZ {w = w32} {z = a .«first_target»} (record { sfits = c .before .struct-told2 .given .1 .1 .1 .1 .1 .0 .1 }) in
     rw (c .before .before .if1 .left) (c .is-minus-one .ensures ∙ ap isMinusOne e)

@@ -1,7 +1,7 @@
-use Prim.Native.Nat.{_≤_, _<_, _-_}
+use Prim.Native.Nat.{_≤_, _-_}
 use mathlib.Core.Path.{_≡_, refl, sym, _∙_}
 use native.Mathlib.Omega.{arith}
-use lib.ListN.{length, take}
+use lib.ListN.{getD, take}
 use lib.Seq.{slice}
 use borrow.Author.Tests.{le-leb, lt-leb}
 use Rattle.lists.specs.Tests.{every, each}
@@ -25,13 +25,13 @@ returns : tie.Need-returns Inv-loop μ-loop
 returns c =
     let l = c .before .before .before .before in
     let a = l .before .args in
-    sym (l .loop .inv .1 ∙ rw (slice-next (a .t1) (a .n) (l .loop .i) noObject (c .before .before .before .loop-test .taken) (omega arith), lt-leb _ _ (c .if1 .taken)))
+    sym (l .loop .inv .1 ∙ rw (slice-next (a .t1) (a .n) (l .loop .i) noObject (c .before .before .before .loop-test .taken) (omega arith), lt-leb (getD (a .t1) (l .loop .i) noObject .target) 65534 (omega arith)))
 
 loop-again : tie.Need-loop-again Inv-loop μ-loop
 loop-again c =
     let l = c .before .before .before .before in
     let a = l .before .args in
-    (omega arith, l .loop .inv .1 ∙ rw (slice-next (a .t1) (a .n) (l .loop .i) noObject (c .before .before .before .loop-test .taken) (omega arith), le-leb _ _ (c .if1 .left)))
+    (omega arith, l .loop .inv .1 ∙ rw (slice-next (a .t1) (a .n) (l .loop .i) noObject (c .before .before .before .loop-test .taken) (omega arith), le-leb (getD (a .t1) (l .loop .i) noObject .target) 65534 (omega arith)))
 
 returns-2 : tie.Need-returns-2 Inv-loop μ-loop
 returns-2 c =

@@ -40,10 +40,12 @@ loop-again : tie.Need-loop-again Inv-loop μ-loop
 loop-again c =
     let p = c .before .before .before .before .before in
     let l = p .before .args .t1 in
-    let h : length (l .components) ≡ 16 = unmapped (l .components) _ (p .before .good .0 .1 .1 .1 .1 .0 .1 .0 .1) in
-    (omega arith, p .loop .inv .1 ∙ ahead-pass (l .components) (l .count) (p .loop .i) emptyOk unread (omega arith) (omega arith)
-    (rw (slice-next (l .components) (l .count) (p .loop .i + 1) unread (c .before .before .before .before .loop-test .taken) (omega arith))
-    (sym (c .before .empty-ok .ensures) ∙ not-false (c .before .empty-ok .result) (c .if1 .left))))
+    let h : length (l .components) ≡ 16 = unmapped (l .components) _ (p .before .good .0 .1 .1 .1 .1 .0 .1 .0 .1) in (
+      omega arith,
+      p .loop .inv .1 ∙ ahead-pass (l .components) (l .count) (p .loop .i) emptyOk unread (omega arith) (omega arith)
+          (rw (slice-next (l .components) (l .count) (p .loop .i + 1) unread (c .before .before .before .before .loop-test .taken) (omega arith))
+          (sym (c .before .empty-ok .ensures) ∙ not-false (c .before .empty-ok .result) (c .if1 .left))),
+    )
 
 returns-2 : tie.Need-returns-2 Inv-loop μ-loop
 returns-2 c =

@@ -47,9 +47,11 @@ loop-again c =
     let p = c .before .before .before .before .before in
     let s = p .before .before in
     let l = s .args .t1 in
-    let h : length (l .components) ≡ 16 = unmapped (l .components) _ (s .good .0 .1 .1 .1 .1 .0 .1 .0 .1) in
-    (omega arith, p .loop .inv .1 ∙ along-pass (l .components) (l .count) (p .loop .i) followsOk mayFollow (p .loop .may) unread (c .before .before .before .before .loop-test .taken) (omega arith)
-    (sym (c .before .before .follows-ok .ensures) ∙ not-false (c .before .before .follows-ok .result) (c .before .if1 .left)))
+    let h : length (l .components) ≡ 16 = unmapped (l .components) _ (s .good .0 .1 .1 .1 .1 .0 .1 .0 .1) in (
+      omega arith,
+      p .loop .inv .1 ∙ along-pass (l .components) (l .count) (p .loop .i) followsOk mayFollow (p .loop .may) unread (c .before .before .before .before .loop-test .taken) (omega arith)
+          (sym (c .before .before .follows-ok .ensures) ∙ not-false (c .before .before .follows-ok .result) (c .before .if1 .left)),
+    )
 
 pub follow-fault-spec : {M : Type 1} → statement M
 follow-fault-spec = tie.close (tie.spec Inv-loop μ-loop (λ c κs. search needs) loop-holds (λ c. search needs) (λ c. search needs) (λ c κs. search needs) returns (λ c. search needs) (λ c. search needs) loop-again returns-2)

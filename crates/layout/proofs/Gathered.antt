@@ -1,9 +1,8 @@
 -- The rows that hold the object records of the first components, and then those of the rest, hold the object records of all.
 use Prim.Native.Nat.{ℕ, _+_, _≤_}
-use mathlib.Core.Path.{_≡_, refl, sym, ap, _∙_}
+use mathlib.Core.Path.{_≡_, sym, ap, _∙_}
 use mathlib.Core.List.{List, _++_}
 use native.Mathlib.Omega.{arith}
-use native.Mathlib.Nat.{zero-add}
 use lib.ListN.{length, take, take-append-drop, length-append}
 use lib.Seq.{sets, slice, take-take}
 use Rattle.layout.specs.declared.Component.{Component}

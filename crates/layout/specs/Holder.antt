@@ -1,7 +1,7 @@
 -- The component that holds a file byte, and the bytes that a layout covers.
 use Prim.Native.Nat.{ℕ, suc}
 use mathlib.Core.List.{List, [], _∷_}
-use mathlib.Core.Bool.{Bool, true, false, cond, _&&_, _||_}
+use mathlib.Core.Bool.{Bool, false, cond, _&&_, _||_}
 use lib.Dec.{ltb, leb}
 use Rattle.lists.specs.Tests.{after}
 use Rattle.layout.specs.declared.Component.{Component}

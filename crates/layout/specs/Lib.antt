@@ -11,3 +11,4 @@ pub mod PrefixLaws
 pub mod HolderLaws
 pub mod RecordLaws
 pub mod Rows
+pub mod Samples

@@ -8,7 +8,7 @@ ghost use Prim.Native.Nat.{_≤_};
 ghost use lib.Dec.{eqb};
 ghost use lib.ListN.{length, take};
 ghost use Rattle.lists.specs.Tests.{every, each, firstFailed};
-ghost use Rattle.layout.specs.Records.{recordsOf, recordCount, view};
+ghost use Rattle.layout.specs.Records.{recordsOf, view};
 ghost use Rattle.layout.specs.Fields.{isUnit, extensionOk, stripedOk, kindOk, isMinusOne, isTarget};
 ghost use Rattle.layout.specs.Fields.{firstTargetOk, targetOk, fieldsOk, fieldTests};
 ghost use Rattle.layout.specs.Known.{Passed, Kept};

@@ -2,7 +2,6 @@
 ghost use mathlib.Core.Path.{_≡_};
 ghost use mathlib.Core.Bool.{true};
 ghost use Prim.Native.Nat.{_≤_};
-ghost use lib.ListN.{take};
 ghost use Rattle.layout.specs.Records.{fromParts, view};
 ghost use Rattle.layout.specs.Rules.{ruleBroken, valid};
 ghost use Rattle.layout.specs.Known.{Kept};

@@ -2,11 +2,11 @@
 // the tests of the first `from` components are known to pass and are not asked again.
 use crate::Layout;
 ghost use mathlib.Core.Path.{_≡_};
-ghost use mathlib.Core.Bool.{true, false, not, _||_, Bool·beq};
+ghost use mathlib.Core.Bool.{false, not, _||_, Bool·beq};
 ghost use Prim.Native.Nat.{_-_, _≤_};
 ghost use lib.Dec.{eqb};
 ghost use lib.ListN.{take};
-ghost use Rattle.lists.specs.Tests.{every, firstFailed, after};
+ghost use Rattle.lists.specs.Tests.{firstFailed, after};
 ghost use Rattle.layout.specs.Records.{view};
 ghost use Rattle.layout.specs.Neighbours.{endOf, mayFollow, beginTests, followTests, emptyTests, lastTests};
 ghost use Rattle.layout.specs.Neighbours.{neighboursHold};

@@ -1,13 +1,13 @@
 -- Lists whose elements all differ, by a test of sameness: as a list of tests, and as counts.
 use Prim.Native.Nat.{ℕ, zero, suc, _+_, _≤_, _<_}
-use mathlib.Core.Path.{_≡_, refl, sym, ap, _∙_, subst}
+use mathlib.Core.Path.{_≡_, refl, sym, ap, _∙_}
 use mathlib.Core.List.{List, [], _∷_, _++_, append-nil}
-use mathlib.Core.Bool.{Bool, true, false, not, _&&_, _||_, true≢false, false≢true}
+use mathlib.Core.Bool.{Bool, true, false, not, _||_, false≢true}
 use native.Mathlib.Omega.{arith}
 use lib.ListN.{length, getD}
 use lib.Seq.{append-snoc}
 use borrow.Author.Tests.{not-true}
-use Rattle.lists.specs.Bools.{bool-cases, clash, both-true, both-false, true-both}
+use Rattle.lists.specs.Bools.{bool-cases, both-true, both-false}
 use Rattle.lists.specs.Tests.{every, along, after}
 
 -- 1 for a test that passes, 0 for one that fails.

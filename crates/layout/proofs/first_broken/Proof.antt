@@ -1,3 +1,4 @@
+-- `layout::first_broken` meets its contract: no component is known, and none breaks no rule.
 use mathlib.Core.Path.{refl}
 use Rattle.layout.specs.Neighbours.{neighboursHold}
 use Rattle.layout.specs.Distinct.{distinctHold}

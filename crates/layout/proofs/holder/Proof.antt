@@ -1,5 +1,6 @@
+-- `layout::holder` meets its contract: in a valid layout the component that holds a byte is the first that ends above it.
 use Prim.Native.Nat.{_+_, _≤_, _-_}
-use mathlib.Core.Path.{_≡_, refl, sym, _∙_}
+use mathlib.Core.Path.{_≡_, sym, _∙_}
 use mathlib.Core.Bool.{false}
 use native.Mathlib.Omega.{arith}
 use native.Mathlib.Nat.{zero-add, add-zero}
@@ -10,7 +11,6 @@ use Rattle.lists.specs.Slices.{unmapped, slice-next, slice-done}
 use Rattle.layout.specs.Records.{view}
 use Rattle.layout.specs.Holder.{holderOf}
 use Rattle.layout.specs.HolderLaws.{endsAbove, holder-ends}
-use Rattle.layout.specs.Facts.{Valid}
 use Rattle.layout.specs.FactLaws.{valid-facts}
 use Rattle.layout.proofs.Unread.{unread}
 use borrow.Author.Needs.{needs}

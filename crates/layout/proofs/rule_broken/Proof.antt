@@ -1,4 +1,4 @@
-use mathlib.Core.Path.{sym, _∙_}
+-- `layout::rule_broken` meets its contract: the rules are asked in rising order of their numbers.
 use borrow.Author.Tests.{not-true, not-false}
 use Rattle.layout.specs.Rules.{ruleBroken}
 use borrow.Author.Needs.{needs}

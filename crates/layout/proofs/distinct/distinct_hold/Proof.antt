@@ -1,8 +1,9 @@
+-- `layout::distinct::distinct_hold` meets its contract: the ids differ exactly if the first fault stands at the count.
 use mathlib.Core.Path.{_≡_, _∙_}
 use mathlib.Core.List.{[]}
 use native.Mathlib.Omega.{arith}
 use lib.Dec.{eqb}
-use lib.ListN.{length, take}
+use lib.ListN.{length}
 use lib.Seq.{length-take-le}
 use Rattle.lists.specs.Tests.{length-along, failed-every}
 use Rattle.lists.specs.Counting.{unseen, seenWith}

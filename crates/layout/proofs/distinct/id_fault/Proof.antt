@@ -1,13 +1,13 @@
-use Prim.Native.Nat.{_+_, _≤_, _<_, _-_}
-use mathlib.Core.Path.{_≡_, refl, sym, ap, _∙_}
-use mathlib.Core.Bool.{true, false}
+-- `layout::distinct::id_fault` meets its contract: outside, the position is i and that among the ids from i on; inside, the id is asked of those from j to i.
+use Prim.Native.Nat.{_+_, _≤_, _-_}
+use mathlib.Core.Path.{_≡_, refl, sym, _∙_}
 use native.Mathlib.Omega.{arith}
 use lib.Dec.{eqb}
-use lib.ListN.{length, getD, take}
+use lib.ListN.{length, take}
 use lib.Seq.{slice}
 use borrow.Author.Tests.{eq-eqb, ne-eqb}
-use Rattle.lists.specs.Tests.{every, firstFailed, along}
-use Rattle.lists.specs.Counting.{elem, fresh, unseen, seenWith}
+use Rattle.lists.specs.Tests.{firstFailed, along}
+use Rattle.lists.specs.Counting.{elem, unseen, seenWith}
 use Rattle.lists.specs.Slices.{unmapped}
 use Rattle.lists.specs.Loops.{scan-start, scan-pass, scan-hit, scan-done, row-pass, row-hit, row-done}
 use Rattle.layout.specs.Records.{view}

@@ -1,15 +1,12 @@
-use Prim.Native.Nat.{ℕ, _+_, _≤_}
-use mathlib.Core.Path.{_≡_, refl, sym, ap, _∙_}
-use mathlib.Core.Bool.{true}
+-- `layout::distinct::objects_differ` meets its contract: the rows hold the object records of the layout, those of the first `from` components first.
+use mathlib.Core.Path.{_≡_, sym, ap, _∙_}
 use mathlib.Core.List.{List}
 use native.Mathlib.Omega.{arith}
-use lib.Dec.{eqb}
 use lib.ListN.{length, take, replicate}
 use lib.Seq.{take-take}
-use Rattle.lists.specs.Tests.{every, firstFailed, length-along, failed-every}
+use Rattle.lists.specs.Tests.{firstFailed, length-along, failed-every}
 use Rattle.lists.specs.Counting.{fresh, unseen, seenWith}
 use Rattle.layout.specs.declared.Object.{Object}
-use Rattle.layout.specs.declared.Component.{Component}
 use Rattle.layout.specs.Records.{recordsIn, view}
 use Rattle.layout.specs.Rows.{named}
 use Rattle.layout.specs.Distinct.{sameObject, objectTests}

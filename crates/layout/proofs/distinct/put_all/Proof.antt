@@ -1,9 +1,9 @@
-use Prim.Native.Nat.{ℕ, _+_, _*_, _≤_, _<_, _-_}
-use mathlib.Core.Path.{_≡_, refl, sym, ap, _∙_}
+-- `layout::distinct::put_all` meets its contract: what all stores give is what the stores of the components from i on give to the rows as they are.
+use Prim.Native.Nat.{_+_, _*_, _≤_, _-_}
+use mathlib.Core.Path.{_≡_, sym, _∙_}
 use native.Mathlib.Omega.{arith}
 use lib.ListN.{length, getD, length-append}
 use lib.Seq.{sets, slice}
-use denote.Ref.{now}
 use Rattle.lists.specs.Slices.{unmapped, slice-next, slice-done}
 use Rattle.layout.specs.Records.{recordsIn, recordsOf}
 use Rattle.layout.specs.Rows.{targetsOf, numbersOf, sets-targets, sets-numbers}

@@ -1,3 +1,4 @@
+-- `layout::distinct::put_records` meets its contract: what all stores give is what the stores from j on give to the rows as they are.
 use Prim.Native.Nat.{ℕ, _+_, _≤_, _<_, _-_}
 use mathlib.Core.List.{List}
 use mathlib.Core.Path.{_≡_, refl, sym, ap, _∙_}

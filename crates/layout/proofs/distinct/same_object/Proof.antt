@@ -1,3 +1,4 @@
+-- `layout::distinct::same_object` meets its contract: the test is the definition's, written out.
 use mathlib.Core.Path.{refl}
 use Rattle.layout.specs.Distinct.{sameObject}
 use Rattle.layout.proofs.distinct.same_object.Statement.{statement}

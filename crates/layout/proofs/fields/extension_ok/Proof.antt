@@ -1,3 +1,4 @@
+-- `layout::fields::extension_ok` meets its contract: the tests are the definition's, in its order.
 use Rattle.layout.specs.Fields.{extensionOk}
 use borrow.Author.Needs.{needs}
 use Rattle.layout.proofs.fields.extension_ok.Statement.{statement}

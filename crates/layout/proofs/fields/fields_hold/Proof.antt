@@ -1,6 +1,7 @@
+-- `layout::fields::fields_hold` meets its contract: no test fails exactly if the first that does stands at the count.
 use mathlib.Core.Path.{_≡_, _∙_}
 use native.Mathlib.Omega.{arith}
-use lib.ListN.{length, take}
+use lib.ListN.{length}
 use lib.Seq.{length-take-le}
 use Rattle.lists.specs.Tests.{length-ahead, failed-every}
 use Rattle.lists.specs.Slices.{unmapped}

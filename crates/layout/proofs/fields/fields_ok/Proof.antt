@@ -1,3 +1,4 @@
+-- `layout::fields::fields_ok` meets its contract: the clauses are the definition's, each by the function that asks it.
 use Rattle.layout.specs.Fields.{fieldsOk}
 use borrow.Author.Needs.{needs}
 use Rattle.layout.proofs.fields.fields_ok.Statement.{statement}

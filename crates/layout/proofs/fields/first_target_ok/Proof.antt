@@ -1,10 +1,10 @@
-use Prim.Native.Nat.{_<_}
+-- `layout::fields::first_target_ok` meets its contract: the first object record stands in the first place of the array.
 use mathlib.Core.Path.{_≡_, sym, ap, _∙_}
 use native.Mathlib.Omega.{arith}
 use lib.ListN.{length}
 use mir.Syntax.{w32}
 use mir.Facts.{toZ-ofZ}
-use Rattle.layout.specs.Records.{noObject, recordsOf}
+use Rattle.layout.specs.Records.{recordsOf}
 use Rattle.layout.specs.Fields.{isMinusOne, firstTargetOk}
 use Rattle.layout.proofs.FirstTarget.{first-none, first-place}
 use borrow.Author.Needs.{needs}

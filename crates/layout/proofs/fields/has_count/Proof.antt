@@ -1,3 +1,4 @@
+-- `layout::fields::has_count` meets its contract: each way is one case of the flag.
 use Rattle.layout.proofs.fields.has_count.Statement.{statement}
 use Rattle.layout.proofs.fields.has_count.Tie as tie
 

@@ -1,3 +1,4 @@
+-- `layout::fields::is_minus_one` meets its contract: the 32 bits of -1 are those of no other number.
 use Rattle.layout.proofs.Signed.{minus-one-bits}
 use Rattle.layout.proofs.fields.is_minus_one.Statement.{statement}
 use Rattle.layout.proofs.fields.is_minus_one.Tie as tie

@@ -1,3 +1,4 @@
+-- `layout::fields::is_target` meets its contract: below 2^31 the bits of a target are the number itself, and above it no signed number is the target.
 use mathlib.Core.Path.{sym}
 use Rattle.layout.proofs.Signed.{target-bits, target-past}
 use borrow.Author.Needs.{needs}

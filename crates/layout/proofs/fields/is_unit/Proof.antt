@@ -1,3 +1,4 @@
+-- `layout::fields::is_unit` meets its contract: the test is the definition's, written out.
 use mathlib.Core.Path.{refl}
 use Rattle.layout.specs.Fields.{isUnit}
 use Rattle.layout.proofs.fields.is_unit.Statement.{statement}

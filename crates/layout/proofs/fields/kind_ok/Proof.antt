@@ -1,3 +1,4 @@
+-- `layout::fields::kind_ok` meets its contract: each way gives its kind's tests.
 use Rattle.layout.specs.Fields.{kindOk}
 use borrow.Author.Needs.{needs}
 use Rattle.layout.proofs.fields.kind_ok.Statement.{statement}

@@ -1,3 +1,4 @@
+-- `layout::fields::record_count` meets its contract: the array has 16 places, so more stripes than 16 leave it whole.
 use Prim.Native.Nat.{_≤_}
 use mathlib.Core.Path.{_≡_, refl, sym}
 use native.Mathlib.Omega.{arith}

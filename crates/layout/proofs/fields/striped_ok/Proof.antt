@@ -1,3 +1,4 @@
+-- `layout::fields::striped_ok` meets its contract: the tests are the definition's, in its order.
 use Rattle.layout.specs.Fields.{stripedOk}
 use borrow.Author.Needs.{needs}
 use Rattle.layout.proofs.fields.striped_ok.Statement.{statement}

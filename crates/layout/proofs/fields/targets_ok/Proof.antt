@@ -1,3 +1,4 @@
+-- `layout::fields::targets_ok` meets its contract: the tests from i on give what all give.
 use Prim.Native.Nat.{_≤_, _-_}
 use mathlib.Core.Path.{_≡_, refl, sym, _∙_}
 use native.Mathlib.Omega.{arith}

@@ -1,3 +1,4 @@
+-- `layout::neighbours::empty_fault` meets its contract: the position is i and the position among the tests from i on; the last component has no follower.
 use Prim.Native.Nat.{_+_, _≤_, _-_}
 use mathlib.Core.Path.{_≡_, sym, _∙_}
 use native.Mathlib.Omega.{arith}

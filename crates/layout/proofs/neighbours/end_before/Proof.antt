@@ -1,3 +1,4 @@
+-- `layout::neighbours::end_before` meets its contract: the state after the first i components is the end of the last of them.
 use mathlib.Core.Path.{_≡_, sym}
 use native.Mathlib.Omega.{arith}
 use lib.ListN.{length}

@@ -1,10 +1,11 @@
+-- `layout::neighbours::follow_fault` meets its contract: the position is i and the position among the tests from i on, where `may` says what stands before.
 use Prim.Native.Nat.{_+_, _≤_, _-_}
 use mathlib.Core.Path.{_≡_, sym, _∙_}
 use mathlib.Core.Bool.{false}
 use native.Mathlib.Omega.{arith}
 use lib.ListN.{length}
 use lib.Seq.{slice}
-use borrow.Author.Tests.{not-true, not-false, eq-eqb, ne-eqb}
+use borrow.Author.Tests.{not-true, not-false}
 use Rattle.lists.specs.Tests.{firstFailed, along}
 use Rattle.lists.specs.Slices.{unmapped}
 use Rattle.lists.specs.Loops.{along-start, along-pass, along-fail, along-done}

@@ -1,4 +1,4 @@
-use Prim.Native.Nat.{ℕ}
+-- `layout::neighbours::last_fault` meets its contract: of these tests only the last can fail.
 use mathlib.Core.Path.{_≡_, sym, _∙_}
 use native.Mathlib.Omega.{arith}
 use lib.ListN.{length}

@@ -1,3 +1,4 @@
+-- `layout::neighbours::may_before` meets its contract: the state after the first i components is that of the last of them.
 use mathlib.Core.Path.{_≡_, sym}
 use mathlib.Core.Bool.{false}
 use native.Mathlib.Omega.{arith}

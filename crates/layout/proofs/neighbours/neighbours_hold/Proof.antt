@@ -1,8 +1,8 @@
-use Prim.Native.Nat.{_-_, _≤_}
+-- `layout::neighbours::neighbours_hold` meets its contract: each part holds exactly if its first fault stands at the count.
 use mathlib.Core.Path.{_≡_, _∙_}
 use mathlib.Core.Bool.{false}
 use native.Mathlib.Omega.{arith}
-use lib.ListN.{length, take}
+use lib.ListN.{length}
 use lib.Seq.{length-take-le}
 use Rattle.lists.specs.Tests.{length-along, length-ahead, failed-every}
 use Rattle.lists.specs.Slices.{unmapped}

@@ -1,5 +1,5 @@
--- `layout::distinct::object_repeat` meets its contract: outside, the position is `later` and that among the records from there on; inside, the record is asked of
--- those from `earlier` to `later`.
+-- `layout::distinct::object_repeat` meets its contract: outside, the position is `later` and that among the records from there
+-- on; inside, the record is asked of those from `earlier` to `later`.
 use Prim.Native.Nat.{suc, _+_, _≤_, _<_, _-_}
 use mathlib.Core.Path.{_≡_, refl, sym, _∙_}
 use native.Mathlib.Omega.{arith}

@@ -53,7 +53,7 @@ pub fn layout_of_parts(generation: u32, count: usize, components: [Component; 16
 // The number of the first component rule that the layout's components break, 6, 7 or 8, or 0. `more` says that pages
 // are outstanding. The first `from` components are known to break no rule with pages outstanding, and only the rest is
 // asked.
-pub fn rule_broken(l: Layout, more: bool, from: usize) -> u8
+pub fn rule_broken_from(l: Layout, more: bool, from: usize) -> u8
     requires { ⌜ Kept from l ⌝ }
     ensures { λ r. ⌜ r ≡ ruleBroken more (view l) ⌝ }
 {
@@ -70,11 +70,11 @@ pub fn rule_broken(l: Layout, more: bool, from: usize) -> u8
 }
 
 // The same, where nothing is known of the components.
-pub fn first_broken(l: Layout, more: bool) -> u8
+pub fn rule_broken(l: Layout, more: bool) -> u8
     requires { ⌜ l .count ≤ 16 ⌝ }
     ensures { λ r. ⌜ r ≡ ruleBroken more (view l) ⌝ }
 {
-    rule_broken(l, more, 0)
+    rule_broken_from(l, more, 0)
 }
 
 // Is the layout valid: does refusal 1 not apply to it?
@@ -87,7 +87,7 @@ pub fn is_valid(l: Layout) -> bool
     if 16 < l.count {
         return false;
     }
-    first_broken(l, false) == 0
+    rule_broken(l, false) == 0
 }
 
 // The position of the component that holds the file byte, or the count where none does.

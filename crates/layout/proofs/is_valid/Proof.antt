@@ -26,7 +26,7 @@ returns-3 c =
     let l = s .args .l in
     let h : length (l .components) ≡ 16 = unmapped (l .components) _ (s .good .0 .1 .1 .1 .1 .0 .1 .0 .1) in
     let n : length (view l) ≡ l .count = length-take-le (l .count) (l .components) (omega arith) in
-    rw (le-leb 1 _ (c .before .before .before .if1 .left), le-leb _ 16 (c .before .if2 .left), eq-eqb _ _ n, ← c .first-broken .ensures)
+    rw (le-leb 1 _ (c .before .before .before .if1 .left), le-leb _ 16 (c .before .if2 .left), eq-eqb _ _ n, ← c .rule-broken .ensures)
 
 pub is-valid-spec : {M : Type 1} → statement M
 is-valid-spec = tie.close (tie.spec returns returns-2 (λ c κs. search needs) returns-3)

@@ -1,36 +1,15 @@
--- `layout::rule_broken` meets its contract: the rules are asked in rising order of their numbers.
-use borrow.Author.Tests.{not-true, not-false}
+-- `layout::rule_broken` meets its contract: no component is known, and the empty list breaks no rule.
+use mathlib.Core.Path.{refl}
+use Rattle.layout.specs.Neighbours.{neighboursHold}
+use Rattle.layout.specs.Distinct.{distinctHold}
 use Rattle.layout.specs.Rules.{ruleBroken}
 use borrow.Author.Needs.{needs}
 use Rattle.layout.proofs.rule_broken.Statement.{statement}
 use Rattle.layout.proofs.rule_broken.Tie as tie
 
-returns : tie.Need-returns
-unfolding ruleBroken
-returns c = rw (← c .before .fields-hold .ensures, not-true (c .before .fields-hold .result) (c .if1 .taken))
-
-returns-2 : tie.Need-returns-2
-unfolding ruleBroken
-returns-2 c =
-    let f = c .before .before .before .fields-hold in
-    let n = c .before .neighbours-hold in
-    rw (← f .ensures, not-false (f .result) (c .before .before .if1 .left), ← n .ensures, not-true (n .result) (c .if2 .taken))
-
-returns-3 : tie.Need-returns-3
-unfolding ruleBroken
-returns-3 c =
-    let f = c .before .before .before .before .before .fields-hold in
-    let n = c .before .before .before .neighbours-hold in
-    let d = c .before .distinct-hold in
-    rw (← f .ensures, not-false (f .result) (c .before .before .before .before .if1 .left), ← n .ensures, not-false (n .result) (c .before .before .if2 .left), ← d .ensures, not-true (d .result) (c .if3 .taken))
-
-returns-4 : tie.Need-returns-4
-unfolding ruleBroken
-returns-4 c =
-    let f = c .before .before .before .before .before .fields-hold in
-    let n = c .before .before .before .neighbours-hold in
-    let d = c .before .distinct-hold in
-    rw (← f .ensures, not-false (f .result) (c .before .before .before .before .if1 .left), ← n .ensures, not-false (n .result) (c .before .before .if2 .left), ← d .ensures, not-false (d .result) (c .if3 .left))
+rule-broken-from-requires : tie.Need-rule-broken-from-requires
+unfolding ruleBroken neighboursHold distinctHold
+rule-broken-from-requires c κs = (search needs, search needs, refl)
 
 pub rule-broken-spec : {M : Type 1} → statement M
-rule-broken-spec = tie.close (tie.spec (λ c κs. search needs) returns (λ c κs. search needs) returns-2 (λ c κs. search needs) returns-3 returns-4)
+rule-broken-spec = tie.close (tie.spec rule-broken-from-requires (λ c. search needs))

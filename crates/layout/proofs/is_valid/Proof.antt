@@ -17,7 +17,9 @@ returns c = rw (lt-leb 1 _ (c .if1 .taken))
 
 returns-2 : tie.Need-returns-2
 unfolding valid
-returns-2 c = rw (le-leb 1 _ (c .before .before .if1 .left), lt-leb _ 16 (c .if2 .taken))
+returns-2 c =
+    let n = c .before .before .before .before .args .l .count in
+    rw (le-leb 1 n (omega arith), lt-leb n 16 (omega arith))
 
 returns-3 : tie.Need-returns-3
 unfolding valid

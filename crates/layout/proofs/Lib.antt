@@ -2,5 +2,4 @@ pub mod Signed
 pub mod Unread
 pub mod FirstTarget
 pub mod Ends
-pub mod Ids
 pub mod Gathered

@@ -1,22 +1,16 @@
 -- Distinctness (refusal 8).
-use Prim.Native.Nat.{ℕ}
-use mathlib.Core.List.{List, [], _∷_}
+use mathlib.Core.List.{List}
 use mathlib.Core.Bool.{Bool, _&&_}
 use lib.Dec.{eqb}
 use Rattle.lists.specs.Tests.{every}
 use Rattle.lists.specs.Counting.{fresh}
 use Rattle.layout.specs.declared.Object.{Object}
 use Rattle.layout.specs.declared.Component.{Component}
-use Rattle.layout.specs.Records.{recordsIn}
+use Rattle.layout.specs.Records.{idsOf, recordsIn}
 
 -- Two object records "name the same target and number".
 unfoldable pub sameObject : Object → Object → Bool
 sameObject a b = eqb (a .target) (b .target) && eqb (a .number) (b .number)
-
--- The ids, in the order of the components.
-abbrev pub idsOf : List Component → List ℕ
-idsOf [] = []
-idsOf (c ∷ cs) = c .id ∷ idsOf cs
 
 -- "no two components share an id": one test for each component, that its id differs from those before it.
 abbrev pub idTests : List Component → List Bool

@@ -15,12 +15,12 @@ use Rattle.lists.specs.Counting.{fresh-count, count-fresh}
 use Rattle.layout.specs.declared.Object.{Object}
 use Rattle.layout.specs.declared.Component.{Component}
 use Rattle.layout.specs.declared.Layout.{Layout}
-use Rattle.layout.specs.Records.{noObject, recordCount, recordsOf, recordsIn, view}
+use Rattle.layout.specs.Records.{noObject, extentOf, extentsOf, recordCount, idsOf, recordsOf, recordsIn, view}
 use Rattle.layout.specs.Fields.{isUnit, extensionOk, stripedOk, kindOk, isMinusOne, isTarget, firstTargetOk, targetOk}
 use Rattle.layout.specs.Fields.{fieldsOk, fieldTests}
 use Rattle.layout.specs.Neighbours.{beginsAt, endOf, beginTests, followsOk, mayFollow, followTests, isEmpty, emptyOk}
 use Rattle.layout.specs.Neighbours.{emptyTests, lastOk, lastTests, neighboursHold}
-use Rattle.layout.specs.Distinct.{sameObject, idsOf, idTests, objectTests, distinctHold}
+use Rattle.layout.specs.Distinct.{sameObject, idTests, objectTests, distinctHold}
 use Rattle.layout.specs.Rules.{ruleBroken, valid}
 use Rattle.layout.specs.Facts.{Unit65536, Striped, IsInit, IsExtension, Kind, isInit, isExtension, isBare}
 use Rattle.layout.specs.Facts.{Fields, Follower, Linked, Keeps, Valid}
@@ -252,31 +252,31 @@ facts-fields [] f = refl
 facts-fields (c ∷ cs) f = true-both (facts-kind c (f .0) (f .1)) (facts-fields cs (f .2))
 
 -- The third and the fourth part of the neighbour rule for one component and what follows it, both ways.
-follower-facts : (more : Bool) (c : Component) (cs : List Component) → emptyOk c cs ≡ true → lastOk more c cs ≡ true
+follower-facts : (more : Bool) (c : Component) (cs : List Component) → emptyOk (extentOf c) (extentsOf cs) ≡ true → lastOk more (extentOf c) (extentsOf cs) ≡ true
     → Follower more c cs
-follower-facts more c [] e l = λ m. not-true (isEmpty c) (rw m at l)
-follower-facts more c (d ∷ cs) e l = λ i. beq-true (isEmpty c) (d .extension) (rw i at e)
+follower-facts more c [] e l = λ m. not-true (isEmpty (extentOf c)) (rw m at l)
+follower-facts more c (d ∷ cs) e l = λ i. beq-true (isEmpty (extentOf c)) (d .extension) (rw i at e)
 
-facts-empty : (more : Bool) (c : Component) (cs : List Component) → Follower more c cs → emptyOk c cs ≡ true
+facts-empty : (more : Bool) (c : Component) (cs : List Component) → Follower more c cs → emptyOk (extentOf c) (extentsOf cs) ≡ true
 facts-empty more c [] f = refl
 facts-empty more c (d ∷ cs) f = bool-cases (c .init) (λ i. rw i) (λ i. rw (i, f i) (true-beq (d .extension)))
 
-facts-last : (more : Bool) (c : Component) (cs : List Component) → Follower more c cs → lastOk more c cs ≡ true
+facts-last : (more : Bool) (c : Component) (cs : List Component) → Follower more c cs → lastOk more (extentOf c) (extentsOf cs) ≡ true
 facts-last true c [] f = refl
 facts-last false c [] f = ap not (f refl)
 facts-last more c (d ∷ cs) f = refl
 
 module _ (more : Bool) where
   -- The four parts for a list, both ways: the component before it ends at `at`, and `may` says that an extension may stand first.
-  linked-from : (at : ℕ) (may : Bool) (cs : List Component) → every (along beginsAt endOf at cs) ≡ true
-      → every (along followsOk mayFollow may cs) ≡ true → every (emptyTests cs) ≡ true → every (lastTests more cs) ≡ true
+  linked-from : (at : ℕ) (may : Bool) (cs : List Component) → every (along beginsAt endOf at (extentsOf cs)) ≡ true
+      → every (along followsOk mayFollow may (extentsOf cs)) ≡ true → every (emptyTests (extentsOf cs)) ≡ true → every (lastTests more (extentsOf cs)) ≡ true
       → Linked more at may cs
   linked-from at may [] b f e l = tt
   linked-from at may (c ∷ cs) b f e l =
-      let b' = both-true (eqb (c .begin) at) (every (along beginsAt endOf (c .end) cs)) b in
-      let f' = both-true (not (c .extension) || may) (every (along followsOk mayFollow (not (c .extension)) cs)) f in
-      let e' = both-true (emptyOk c cs) (every (emptyTests cs)) e in
-      let l' = both-true (lastOk more c cs) (every (lastTests more cs)) l in (
+      let b' = both-true (eqb (c .begin) at) (every (along beginsAt endOf (c .end) (extentsOf cs))) b in
+      let f' = both-true (not (c .extension) || may) (every (along followsOk mayFollow (not (c .extension)) (extentsOf cs))) f in
+      let e' = both-true (emptyOk (extentOf c) (extentsOf cs)) (every (emptyTests (extentsOf cs))) e in
+      let l' = both-true (lastOk more (extentOf c) (extentsOf cs)) (every (lastTests more (extentsOf cs))) l in (
         eqb-true (c .begin) at (b' .0),
         implies-true (c .extension) may (f' .0),
         follower-facts more c cs (e' .0) (l' .0),
@@ -284,8 +284,8 @@ module _ (more : Bool) where
       )
 
   from-linked : (at : ℕ) (may : Bool) (cs : List Component) → Linked more at may cs
-      → (every (along beginsAt endOf at cs) ≡ true) × (every (along followsOk mayFollow may cs) ≡ true)
-      × (every (emptyTests cs) ≡ true) × (every (lastTests more cs) ≡ true)
+      → (every (along beginsAt endOf at (extentsOf cs)) ≡ true) × (every (along followsOk mayFollow may (extentsOf cs)) ≡ true)
+      × (every (emptyTests (extentsOf cs)) ≡ true) × (every (lastTests more (extentsOf cs)) ≡ true)
   from-linked at may [] k = (refl, refl, refl, refl)
   from-linked at may (c ∷ cs) k =
       let r = from-linked (c .end) (not (c .extension)) cs (k .3) in (
@@ -296,15 +296,15 @@ module _ (more : Bool) where
       )
 
   -- A list of which the neighbour rule holds has the facts of its neighbours.
-  pub linked-facts : (cs : List Component) → neighboursHold more cs ≡ true → Linked more 0 false cs
+  pub linked-facts : (cs : List Component) → neighboursHold more (extentsOf cs) ≡ true → Linked more 0 false cs
   unfolding neighboursHold
   linked-facts cs e =
-      let f = every (followTests cs) in
-      let p = conjunction-at (every (beginTests cs)) (f ∷ every (emptyTests cs) ∷ every (lastTests more cs) ∷ []) e in
+      let f = every (followTests (extentsOf cs)) in
+      let p = conjunction-at (every (beginTests (extentsOf cs))) (f ∷ every (emptyTests (extentsOf cs)) ∷ every (lastTests more (extentsOf cs)) ∷ []) e in
       linked-from 0 false cs (p 0) (p 1) (p 2) (p 3)
 
   -- The neighbour rule holds of a list with the facts of its neighbours.
-  pub facts-linked : (cs : List Component) → Linked more 0 false cs → neighboursHold more cs ≡ true
+  pub facts-linked : (cs : List Component) → Linked more 0 false cs → neighboursHold more (extentsOf cs) ≡ true
   unfolding neighboursHold
   facts-linked cs k =
       let p = from-linked 0 false cs k in true-both (true-both (true-both (p .0) (p .1)) (p .2)) (p .3)
@@ -318,9 +318,9 @@ none-broken false b c e = absurd (omega arith)
 
 -- Of a list that breaks no rule, all three rules hold.
 pub rules-hold : (more : Bool) (cs : List Component) → ruleBroken more cs ≡ 0
-    → (every (fieldTests cs) ≡ true) × (neighboursHold more cs ≡ true) × (distinctHold cs ≡ true)
+    → (every (fieldTests cs) ≡ true) × (neighboursHold more (extentsOf cs) ≡ true) × (distinctHold cs ≡ true)
 unfolding ruleBroken
-rules-hold more cs e = none-broken (every (fieldTests cs)) (neighboursHold more cs) (distinctHold cs) e
+rules-hold more cs e = none-broken (every (fieldTests cs)) (neighboursHold more (extentsOf cs)) (distinctHold cs) e
 
 -- A list that breaks no rule keeps the component rules.
 pub keeps-facts : (more : Bool) (cs : List Component) → ruleBroken more cs ≡ 0 → Keeps more cs
@@ -377,6 +377,6 @@ startsExtension (c ∷ cs) = c .extension
 
 -- With no pages outstanding, a component that is not init is empty exactly if an extension directly follows.
 pub follower-empty : (c : Component) (cs : List Component) → Follower false c cs → c .init ≡ false
-    → isEmpty c ≡ startsExtension cs
+    → isEmpty (extentOf c) ≡ startsExtension cs
 follower-empty c [] f i = f refl
 follower-empty c (d ∷ cs) f i = f i

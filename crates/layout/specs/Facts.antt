@@ -11,9 +11,9 @@ use Rattle.lists.specs.Counting.{count}
 use Rattle.layout.specs.declared.Object.{Object}
 use Rattle.layout.specs.declared.Component.{Component}
 use Rattle.layout.specs.declared.Layout.{Layout}
-use Rattle.layout.specs.Records.{noObject, recordsOf, recordsIn, view}
+use Rattle.layout.specs.Records.{noObject, extentOf, idsOf, recordsOf, recordsIn, view}
 use Rattle.layout.specs.Neighbours.{isEmpty}
-use Rattle.layout.specs.Distinct.{sameObject, idsOf}
+use Rattle.layout.specs.Distinct.{sameObject}
 
 -- A nonzero multiple of 65,536.
 pub record Unit65536 (n : ℕ) : Type 0 where
@@ -69,8 +69,8 @@ Fields (c ∷ cs) = (1 ≤ c .id) × Kind c × Fields cs
 -- What follows a component that is not init, and the last one: empty exactly if an extension directly follows, and with no
 -- pages outstanding the last is not empty.
 abbrev pub Follower : Bool → Component → List Component → Type 0
-Follower more c [] = more ≡ false → isEmpty c ≡ false
-Follower more c (d ∷ cs) = c .init ≡ false → isEmpty c ≡ d .extension
+Follower more c [] = more ≡ false → isEmpty (extentOf c) ≡ false
+Follower more c (d ∷ cs) = c .init ≡ false → isEmpty (extentOf c) ≡ d .extension
 
 -- Refusal 7 does not apply to the list, where the component before it ends at `at`, and `may` says that an extension may stand
 -- first.

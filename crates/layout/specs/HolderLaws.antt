@@ -10,7 +10,7 @@ use borrow.Author.Tests.{ltb-true, ltb-false, leb-true, lt-ltb, le-ltb, le-leb}
 use Rattle.lists.specs.Bools.{bool-cases, both-true}
 use Rattle.lists.specs.Tests.{after}
 use Rattle.layout.specs.declared.Component.{Component}
-use Rattle.layout.specs.Records.{noComponent}
+use Rattle.layout.specs.Records.{noComponent, extentsOf}
 use Rattle.layout.specs.Neighbours.{endOf}
 use Rattle.layout.specs.Holder.{holds, holderOf, covers, lastEnd}
 use Rattle.layout.specs.Facts.{Fields, Linked}
@@ -93,19 +93,19 @@ module _ (more : Bool) where
       (ap suc (at-most-one (c .end) (not (c .extension)) cs (k .3) (f .2) b i (omega arith) e))
 
   -- The last end is not below the place where the list begins.
-  last-above : (at : ℕ) (may : Bool) (cs : List Component) → Linked more at may cs → Fields cs → at ≤ after endOf at cs
+  last-above : (at : ℕ) (may : Bool) (cs : List Component) → Linked more at may cs → Fields cs → at ≤ after endOf at (extentsOf cs)
   last-above at may [] k f = omega arith
   last-above at may (c ∷ cs) k f = omega (arith, kind-ordered (f .1), last-above (c .end) (not (c .extension)) cs (k .3) (f .2))
 
   -- The list begins at `at`, at or below the byte.
   covers-from : (at : ℕ) (may : Bool) (cs : List Component) → Linked more at may cs → Fields cs → (b : ℕ) → at ≤ b
-      → covers cs b ≡ ltb b (after endOf at cs)
+      → covers cs b ≡ ltb b (after endOf at (extentsOf cs))
   covers-from at may [] k f b h = sym (le-ltb b at h)
   covers-from at may (c ∷ cs) k f b h =
       bool-cases (ltb b (c .end))
       (λ e. let l = ltb-true b (c .end) e in
       rw (holds-in c b (omega arith) l)
-      (sym (lt-ltb b (after endOf (c .end) cs) (omega (arith, last-above (c .end) (not (c .extension)) cs (k .3) (f .2))))))
+      (sym (lt-ltb b (after endOf (c .end) (extentsOf cs)) (omega (arith, last-above (c .end) (not (c .extension)) cs (k .3) (f .2))))))
       (λ e. let p = ltb-false b (c .end) e in
       rw (holds-past c b p) (covers-from (c .end) (not (c .extension)) cs (k .3) (f .2) b p))
 

@@ -1,18 +1,29 @@
 -- What a check takes as known that starts at a position of the layout: the components before it were asked already.
-use Prim.Native.Nat.{ℕ, _≤_}
+use Prim.Native.Nat.{ℕ, _-_, _≤_}
 use mathlib.Core.Path.{_≡_}
 use mathlib.Core.List.{List}
 use mathlib.Core.Bool.{Bool, true}
 use lib.ListN.{take}
 use Rattle.lists.specs.Tests.{every}
+use Rattle.layout.specs.declared.Extent.{Extent}
 use Rattle.layout.specs.declared.Layout.{Layout}
 use Rattle.layout.specs.Records.{view}
+use Rattle.layout.specs.Neighbours.{beginTests, followTests, emptyTests}
 use Rattle.layout.specs.Rules.{ruleBroken}
 
--- The first `from` of a rule's tests, one for each component, pass.
-abbrev pub Passed : ℕ → Layout → List Bool → Type 0
-Passed from l tests = (from ≤ l .count) × (l .count ≤ 16) × (every (take from tests) ≡ true)
+-- The first `from` of a rule's tests, one for each of n components, pass.
+abbrev pub Passed : ℕ → ℕ → List Bool → Type 0
+Passed from n tests = (from ≤ n) × (n ≤ 16) × (every (take from tests) ≡ true)
 
--- The first `from` components break no rule with pages outstanding.
+-- The first `from` of n components pass the tests of the neighbour rule, as far as they can be asked with pages outstanding: the
+-- last of them is not asked about its follower.
+pub record Joined (from n : ℕ) (extents : List Extent) : Type 0 where
+  pub within : from ≤ n
+  pub few : n ≤ 16
+  pub begins : every (take from (beginTests extents)) ≡ true
+  pub follows : every (take from (followTests extents)) ≡ true
+  pub empties : every (take (from - 1) (emptyTests extents)) ≡ true
+
+-- The first `from` components of a layout break no rule with pages outstanding.
 abbrev pub Kept : ℕ → Layout → Type 0
 Kept from l = (from ≤ l .count) × (l .count ≤ 16) × (ruleBroken true (take from (view l)) ≡ 0)

@@ -1,13 +1,14 @@
 -- A list packed into the places of an array is read back as it was.
-use Prim.Native.Nat.{ℕ, _≤_}
-use mathlib.Core.Path.{_≡_}
-use mathlib.Core.List.{List}
+use Prim.Native.Nat.{ℕ, suc, _≤_}
+use mathlib.Core.Path.{_≡_, refl, ap}
+use mathlib.Core.List.{List, [], _∷_}
 use lib.ListN.{length, take, replicate}
 use lib.Seq.{length-sets}
 use Rattle.lists.specs.Slices.{take-sets}
 use Rattle.layout.specs.declared.Object.{Object}
 use Rattle.layout.specs.declared.Component.{Component}
-use Rattle.layout.specs.Records.{noObject, noComponent, view, packObjects, packComponents, pack}
+use Rattle.layout.specs.Records.{noObject, noComponent, noExtent, view, packObjects, packComponents, pack}
+use Rattle.layout.specs.Records.{extentsOf, idsOf, outlineOf}
 
 -- A component array always has 16 places.
 pub pack-components-length : (cs : List Component) → length (packComponents cs) ≡ 16
@@ -28,3 +29,19 @@ view-pack g cs h = take-sets (replicate 16 noComponent) cs h
 pub records-pack : (os : List Object) → length os ≤ 16 → take (length os) (packObjects os) ≡ os
 unfolding packObjects
 records-pack os h = take-sets (replicate 16 noObject) os h
+
+-- A list of components has as many extents and ids as components.
+pub length-extents : (cs : List Component) → length (extentsOf cs) ≡ length cs
+length-extents [] = refl
+length-extents (c ∷ cs) = ap suc (length-extents cs)
+
+pub length-ids : (cs : List Component) → length (idsOf cs) ≡ length cs
+length-ids [] = refl
+length-ids (c ∷ cs) = ap suc (length-ids cs)
+
+-- The first places of the arrays of an outline are the extents and the ids.
+pub outline-extents : (cs : List Component) → length cs ≤ 16 → take (length cs) (outlineOf cs .extents) ≡ extentsOf cs
+outline-extents cs h = rw (length-extents cs) at (take-sets (replicate 16 noExtent) (extentsOf cs) (rw (length-extents cs) h))
+
+pub outline-ids : (cs : List Component) → length cs ≤ 16 → take (length cs) (outlineOf cs .ids) ≡ idsOf cs
+outline-ids cs h = rw (length-ids cs) at (take-sets (replicate 16 0) (idsOf cs) (rw (length-ids cs) h))

@@ -8,7 +8,9 @@ use lib.ListN.{length, take, replicate}
 use lib.Seq.{sets}
 use Rattle.layout.specs.declared.Object.{Object}
 use Rattle.layout.specs.declared.Component.{Component}
+use Rattle.layout.specs.declared.Extent.{Extent}
 use Rattle.layout.specs.declared.Layout.{Layout}
+use Rattle.layout.specs.declared.Outline.{Outline}
 
 -- What stands in the unused places of an object array.
 abbrev pub noObject : Object
@@ -29,6 +31,20 @@ noComponent =
       «extension_size» = 0;
       objects = replicate 16 noObject;
     }
+
+-- What the neighbour rules ask of a component: its extent and its flags.
+abbrev pub extentOf : Component → Extent
+extentOf c = record { init = c .init; extension = c .extension; begin = c .begin; end = c .end }
+
+-- The extents of a list of components.
+abbrev pub extentsOf : List Component → List Extent
+extentsOf [] = []
+extentsOf (c ∷ cs) = extentOf c ∷ extentsOf cs
+
+-- The ids of a list of components.
+abbrev pub idsOf : List Component → List ℕ
+idsOf [] = []
+idsOf (c ∷ cs) = c .id ∷ idsOf cs
 
 -- The number of object records that a component is to have: "If init, as many object records as the stripe count follow".
 abbrev pub recordCount : Component → ℕ
@@ -54,6 +70,15 @@ packObjects os = sets (replicate 16 noObject) 0 os
 -- Components packed into the 16 places of a layout, the rest blank.
 unfoldable pub packComponents : List Component → List Component
 packComponents cs = sets (replicate 16 noComponent) 0 cs
+
+-- What stands in the unused places of an array of extents.
+abbrev pub noExtent : Extent
+noExtent = record { init = false; extension = false; begin = 0; end = 0 }
+
+-- The extents and the ids of at most 16 components, packed into 16 places each.
+abbrev pub outlineOf : List Component → Outline
+outlineOf cs =
+    record { extents = sets (replicate 16 noExtent) 0 (extentsOf cs); ids = sets (replicate 16 0) 0 (idsOf cs) }
 
 -- A layout made from its parts.
 abbrev pub fromParts : ℕ → ℕ → List Component → Layout

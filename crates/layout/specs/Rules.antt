@@ -7,15 +7,16 @@ use lib.ListN.{length}
 use Rattle.lists.specs.Tests.{every}
 use Rattle.layout.specs.declared.Component.{Component}
 use Rattle.layout.specs.declared.Layout.{Layout}
-use Rattle.layout.specs.Records.{view}
+use Rattle.layout.specs.Records.{view, extentsOf}
 use Rattle.layout.specs.Fields.{fieldTests}
 use Rattle.layout.specs.Neighbours.{neighboursHold}
 use Rattle.layout.specs.Distinct.{distinctHold}
 
--- 6, 7 or 8, the lowest number whose rule is broken, or 0. `more` says that pages are outstanding.
+-- 6, 7 or 8, the lowest number whose rule is broken, or 0: "Among its call's numbers each is given exactly if its condition holds
+-- and no lower one's does." `more` says that pages are outstanding.
 unfoldable pub ruleBroken : Bool → List Component → ℕ
 ruleBroken more cs =
-    cond (every (fieldTests cs)) (cond (neighboursHold more cs) (cond (distinctHold cs) 0 8) 7) 6
+    cond (every (fieldTests cs)) (cond (neighboursHold more (extentsOf cs)) (cond (distinctHold cs) 0 8) 7) 6
 
 -- "A layout is valid exactly if refusal 1 doesn't apply to it": it has 1 to 16 components, as many as its count says, and they
 -- keep the rules with no pages outstanding.

@@ -6,29 +6,27 @@ use crate::fields;
 ghost use mathlib.Core.Path.{_≡_};
 ghost use mathlib.Core.Bool.{true};
 ghost use Prim.Native.Nat.{_+_, _*_, _≤_};
+ghost use lib.Dec.{eqb};
 ghost use lib.ListN.{length, take};
 ghost use lib.Seq.{sets, slice};
 ghost use Rattle.lists.specs.Tests.{every, firstFailed};
 ghost use Rattle.lists.specs.Counting.{fresh};
 ghost use Rattle.layout.specs.Records.{view, recordsOf, recordsIn};
 ghost use Rattle.layout.specs.Rows.{targetsOf, numbersOf, objectOf, named};
-ghost use Rattle.layout.specs.Distinct.{sameObject, idTests, objectTests, distinctHold};
-ghost use Rattle.layout.specs.Known.{Passed, Kept};
+ghost use Rattle.layout.specs.Distinct.{sameObject, objectTests};
+ghost use Rattle.layout.specs.Known.{Passed};
 
-// The position of the first component whose id stands before it, or the count. The tests of the first `from` are known
-// to pass.
-pub fn id_fault(l: Layout, from: usize) -> usize
-    requires { ⌜ Passed from l (idTests (view l)) ⌝ }
-    ensures { λ r. ⌜ r ≡ firstFailed (idTests (view l)) ⌝ }
+// The position of the first of n ids that stands before it, or n. The tests of the first `from` are known to pass.
+pub fn id_fault(ids: [u16; 16], n: usize, from: usize) -> usize
+    requires { ⌜ Passed from n (fresh eqb (take n ids)) ⌝ }
+    ensures { λ r. ⌜ r ≡ firstFailed (fresh eqb (take n ids)) ⌝ }
 {
-    let n = l.count;
     let mut i = from;
     'scan: while i < n {
-        let c = l.components[i];
+        let id = ids[i];
         let mut j: usize = 0;
         while j < i {
-            let d = l.components[j];
-            if c.id == d.id {
+            if id == ids[j] {
                 break 'scan;
             }
             j += 1;
@@ -134,14 +132,4 @@ pub fn objects_differ(l: Layout, from: usize) -> bool
     let known = put_all(l, 0, from, 0, &mut targets, &mut numbers);
     let all = put_all(l, from, n, known, &mut targets, &mut numbers);
     object_repeat(&targets, &numbers, all, known) == all
-}
-
-// Does the rule of distinctness hold? The first `from` components are known to break no rule.
-pub fn distinct_hold(l: Layout, from: usize) -> bool
-    requires { ⌜ Kept from l ⌝ }
-    ensures { λ r. ⌜ r ≡ distinctHold (view l) ⌝ }
-{
-    let n = l.count;
-    let ids = id_fault(l, from) == n;
-    ids & objects_differ(l, from)
 }

@@ -154,7 +154,7 @@ pub fn has_count(init: bool, stripe_count: u16, n: usize) -> bool
 // The position of the first component that breaks the rules of the fields, or the count. The first `from` are known to
 // keep them.
 pub fn field_fault(l: Layout, from: usize) -> usize
-    requires { ⌜ Passed from l (fieldTests (view l)) ⌝ }
+    requires { ⌜ Passed from (l .count) (fieldTests (view l)) ⌝ }
     ensures { λ r. ⌜ r ≡ firstFailed (fieldTests (view l)) ⌝ }
 {
     let n = l.count;

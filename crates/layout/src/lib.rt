@@ -1,8 +1,10 @@
 // The records of a layout and the rules that they keep.
 ghost use mathlib.Core.Path.{_≡_};
-ghost use mathlib.Core.Bool.{true};
+ghost use mathlib.Core.Bool.{true, cond};
 ghost use Prim.Native.Nat.{_≤_};
-ghost use Rattle.layout.specs.Records.{fromParts, view};
+ghost use Rattle.layout.specs.Records.{fromParts, view, extentsOf, outlineOf};
+ghost use Rattle.layout.specs.Neighbours.{neighboursHold};
+ghost use Rattle.layout.specs.Distinct.{distinctHold};
 ghost use Rattle.layout.specs.Rules.{ruleBroken, valid};
 ghost use Rattle.layout.specs.Known.{Kept};
 ghost use Rattle.layout.specs.Holder.{holderOf};
@@ -32,12 +34,27 @@ pub struct Component {
     pub objects: [Object; 16],
 }
 
+// What the neighbour rules ask of a component: its extent [begin, end) and its flags.
+pub struct Extent {
+    pub init: bool,
+    pub extension: bool,
+    pub begin: u64,
+    pub end: u64,
+}
+
 // A layout: its components stand in the first `count` places, in the order of the file.
 pub struct Layout {
     pub generation: u32,
     pub count: usize,
     pub components: [Component; 16],
 }
+
+const NO_EXTENT: Extent = Extent {
+    init: false,
+    extension: false,
+    begin: 0,
+    end: 0,
+};
 
 // A layout from its parts.
 pub fn layout_of_parts(generation: u32, count: usize, components: [Component; 16]) -> Layout
@@ -50,6 +67,57 @@ pub fn layout_of_parts(generation: u32, count: usize, components: [Component; 16
     }
 }
 
+// What the rules ask of components beside their fields: the extents and the ids, in the first places.
+pub struct Outline {
+    pub extents: [Extent; 16],
+    pub ids: [u16; 16],
+}
+
+// The extents and the ids of a layout's components; the rest of the places blank.
+pub fn outline_of(l: Layout) -> Outline
+    requires { ⌜ l .count ≤ 16 ⌝ }
+    ensures { λ r. ⌜ r ≡ outlineOf (view l) ⌝ }
+{
+    let n = l.count;
+    let mut extents = [NO_EXTENT; 16];
+    let mut ids = [0u16; 16];
+    let mut i: usize = 0;
+    while i < n {
+        let c = l.components[i];
+        extents[i] = Extent {
+            init: c.init,
+            extension: c.extension,
+            begin: c.begin,
+            end: c.end,
+        };
+        ids[i] = c.id;
+        i += 1;
+    }
+    Outline {
+        extents: extents,
+        ids: ids,
+    }
+}
+
+// The number of the first rule that the components break among those of neighbours and distinctness, 7 or 8, or 0.
+fn later_rule_broken(l: Layout, more: bool, from: usize) -> u8
+    requires { ⌜ Kept from l ⌝ }
+    ensures { λ r. ⌜ r ≡ cond (neighboursHold more (extentsOf (view l))) (cond (distinctHold (view l)) 0 8) 7 ⌝ }
+{
+    let n = l.count;
+    let outline = outline_of(l);
+    let extents = outline.extents;
+    if !neighbours::neighbours_hold(extents, n, more, from) {
+        return 7;
+    }
+    let ids = outline.ids;
+    let ids_differ = distinct::id_fault(ids, n, from) == n;
+    if ids_differ & distinct::objects_differ(l, from) {
+        return 0;
+    }
+    8
+}
+
 // The number of the first component rule that the layout's components break, 6, 7 or 8, or 0. `more` says that pages
 // are outstanding. The first `from` components are known to break no rule with pages outstanding, and only the rest is
 // asked.
@@ -60,13 +128,7 @@ pub fn rule_broken_from(l: Layout, more: bool, from: usize) -> u8
     if !fields::fields_hold(l, from) {
         return 6;
     }
-    if !neighbours::neighbours_hold(l, more, from) {
-        return 7;
-    }
-    if !distinct::distinct_hold(l, from) {
-        return 8;
-    }
-    0
+    later_rule_broken(l, more, from)
 }
 
 // The same, where nothing is known of the components.

@@ -1,53 +1,51 @@
-// The neighbour rules (refusal 7), in their four parts. Each part gives the position of its first fault, or the count;
-// the tests of the first `from` components are known to pass and are not asked again.
-use crate::Layout;
+// The neighbour rules (refusal 7), in their four parts, asked of the extents of n components. Each part gives the
+// position of its first fault, or n; the tests of the first `from` are known to pass and are not asked again.
+use crate::Extent;
 ghost use mathlib.Core.Path.{_≡_};
 ghost use mathlib.Core.Bool.{false, not, _||_, Bool·beq};
 ghost use Prim.Native.Nat.{_-_, _≤_};
 ghost use lib.Dec.{eqb};
 ghost use lib.ListN.{take};
 ghost use Rattle.lists.specs.Tests.{firstFailed, after};
-ghost use Rattle.layout.specs.Records.{view};
 ghost use Rattle.layout.specs.Neighbours.{endOf, mayFollow, beginTests, followTests, emptyTests, lastTests};
 ghost use Rattle.layout.specs.Neighbours.{neighboursHold};
-ghost use Rattle.layout.specs.Known.{Passed, Kept};
+ghost use Rattle.layout.specs.Known.{Passed, Joined};
 
 // Where the component before position i ends: 0 for the first.
-pub fn end_before(l: Layout, i: usize) -> u64
+pub fn end_before(extents: [Extent; 16], i: usize) -> u64
     requires { ⌜ i ≤ 16 ⌝ }
-    ensures { λ r. ⌜ r ≡ after endOf 0 (take i (l .components)) ⌝ }
+    ensures { λ r. ⌜ r ≡ after endOf 0 (take i extents) ⌝ }
 {
     if i == 0 {
         return 0;
     }
     let k = i - 1;
-    let c = l.components[k];
+    let c = extents[k];
     c.end
 }
 
 // May an extension stand at position i: is there a component before it that is not one?
-pub fn may_before(l: Layout, i: usize) -> bool
+pub fn may_before(extents: [Extent; 16], i: usize) -> bool
     requires { ⌜ i ≤ 16 ⌝ }
-    ensures { λ r. ⌜ r ≡ after mayFollow false (take i (l .components)) ⌝ }
+    ensures { λ r. ⌜ r ≡ after mayFollow false (take i extents) ⌝ }
 {
     if i == 0 {
         return false;
     }
     let k = i - 1;
-    let c = l.components[k];
+    let c = extents[k];
     !c.extension
 }
 
 // The first component that does not begin where the one before it ends, the first of all at 0.
-pub fn begin_fault(l: Layout, from: usize) -> usize
-    requires { ⌜ Passed from l (beginTests (view l)) ⌝ }
-    ensures { λ r. ⌜ r ≡ firstFailed (beginTests (view l)) ⌝ }
+pub fn begin_fault(extents: [Extent; 16], n: usize, from: usize) -> usize
+    requires { ⌜ Passed from n (beginTests (take n extents)) ⌝ }
+    ensures { λ r. ⌜ r ≡ firstFailed (beginTests (take n extents)) ⌝ }
 {
-    let n = l.count;
-    let mut at = end_before(l, from);
+    let mut at = end_before(extents, from);
     let mut i = from;
     while i < n {
-        let c = l.components[i];
+        let c = extents[i];
         if c.begin != at {
             return i;
         }
@@ -58,15 +56,14 @@ pub fn begin_fault(l: Layout, from: usize) -> usize
 }
 
 // The first extension that does not directly follow a component that is not one.
-pub fn follow_fault(l: Layout, from: usize) -> usize
-    requires { ⌜ Passed from l (followTests (view l)) ⌝ }
-    ensures { λ r. ⌜ r ≡ firstFailed (followTests (view l)) ⌝ }
+pub fn follow_fault(extents: [Extent; 16], n: usize, from: usize) -> usize
+    requires { ⌜ Passed from n (followTests (take n extents)) ⌝ }
+    ensures { λ r. ⌜ r ≡ firstFailed (followTests (take n extents)) ⌝ }
 {
-    let n = l.count;
-    let mut may = may_before(l, from);
+    let mut may = may_before(extents, from);
     let mut i = from;
     while i < n {
-        let c = l.components[i];
+        let c = extents[i];
         if !follows_ok(may, c.extension) {
             return i;
         }
@@ -93,16 +90,15 @@ pub fn empty_ok(init: bool, begin: u64, end: u64, extension_follows: bool) -> bo
 
 // The first component, but for the last, that is not init and is empty where no extension follows, or not empty where
 // one does.
-pub fn empty_fault(l: Layout, from: usize) -> usize
-    requires { ⌜ Passed from l (emptyTests (view l)) ⌝ }
-    ensures { λ r. ⌜ r ≡ firstFailed (emptyTests (view l)) ⌝ }
+pub fn empty_fault(extents: [Extent; 16], n: usize, from: usize) -> usize
+    requires { ⌜ Passed from n (emptyTests (take n extents)) ⌝ }
+    ensures { λ r. ⌜ r ≡ firstFailed (emptyTests (take n extents)) ⌝ }
 {
-    let n = l.count;
     let mut i = from;
     while i + 1 < n {
         let next = i + 1;
-        let c = l.components[i];
-        let d = l.components[next];
+        let c = extents[i];
+        let d = extents[next];
         if !empty_ok(c.init, c.begin, c.end, d.extension) {
             return i;
         }
@@ -112,11 +108,10 @@ pub fn empty_fault(l: Layout, from: usize) -> usize
 }
 
 // The last component where it is empty with no pages outstanding.
-pub fn last_fault(l: Layout, more: bool) -> usize
-    requires { ⌜ l .count ≤ 16 ⌝ }
-    ensures { λ r. ⌜ r ≡ firstFailed (lastTests more (view l)) ⌝ }
+pub fn last_fault(extents: [Extent; 16], n: usize, more: bool) -> usize
+    requires { ⌜ n ≤ 16 ⌝ }
+    ensures { λ r. ⌜ r ≡ firstFailed (lastTests more (take n extents)) ⌝ }
 {
-    let n = l.count;
     if n == 0 {
         return 0;
     }
@@ -124,7 +119,7 @@ pub fn last_fault(l: Layout, more: bool) -> usize
         return n;
     }
     let k = n - 1;
-    let c = l.components[k];
+    let c = extents[k];
     if c.begin == c.end {
         return k;
     }
@@ -141,15 +136,14 @@ fn one_less(k: usize) -> usize
     k - 1
 }
 
-// Do the neighbour rules hold? The first `from` components are known to break no rule with pages outstanding.
-pub fn neighbours_hold(l: Layout, more: bool, from: usize) -> bool
-    requires { ⌜ Kept from l ⌝ }
-    ensures { λ r. ⌜ r ≡ neighboursHold more (view l) ⌝ }
+// Do the neighbour rules hold, with pages outstanding or not?
+pub fn neighbours_hold(extents: [Extent; 16], n: usize, more: bool, from: usize) -> bool
+    requires { ⌜ Joined from n (take n extents) ⌝ }
+    ensures { λ r. ⌜ r ≡ neighboursHold more (take n extents) ⌝ }
 {
-    let n = l.count;
-    let begins = begin_fault(l, from) == n;
-    let follows = follow_fault(l, from) == n;
-    let empties = empty_fault(l, one_less(from)) == n;
-    let last = last_fault(l, more) == n;
+    let begins = begin_fault(extents, n, from) == n;
+    let follows = follow_fault(extents, n, from) == n;
+    let empties = empty_fault(extents, n, one_less(from)) == n;
+    let last = last_fault(extents, n, more) == n;
     begins & follows & empties & last
 }

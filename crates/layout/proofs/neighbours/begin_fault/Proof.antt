@@ -2,56 +2,52 @@
 use Prim.Native.Nat.{_+_, _≤_, _-_}
 use mathlib.Core.Path.{_≡_, sym, _∙_}
 use native.Mathlib.Omega.{arith}
-use lib.ListN.{length}
+use lib.ListN.{take}
 use lib.Seq.{slice}
 use borrow.Author.Tests.{eq-eqb, ne-eqb}
 use Rattle.lists.specs.Tests.{firstFailed, along}
-use Rattle.lists.specs.Slices.{unmapped}
 use Rattle.lists.specs.Loops.{along-start, along-pass, along-fail, along-done}
-use Rattle.layout.specs.Records.{view}
+use Rattle.layout.specs.Records.{noExtent}
 use Rattle.layout.specs.Neighbours.{beginsAt, endOf, beginTests}
-use Rattle.layout.proofs.Unread.{unread}
 use borrow.Author.Needs.{needs}
 use Rattle.layout.proofs.neighbours.begin_fault.Statement.{statement}
 use Rattle.layout.proofs.neighbours.begin_fault.Tie as tie
 
 abbrev Inv-loop : tie.InvT-loop
-Inv-loop from l n at₀ i₀ at i = (i ≤ n) × (firstFailed (beginTests (view l)) ≡ i + firstFailed (along beginsAt endOf at (slice i n (l .components))))
+Inv-loop n from extents at₀ i₀ at i =
+    (i ≤ n) × (firstFailed (beginTests (take n extents)) ≡ i + firstFailed (along beginsAt endOf at (slice i n extents)))
 
 abbrev μ-loop : tie.MeasureT-loop
-μ-loop from l n at₀ i₀ at i = n - i
+μ-loop n from extents at₀ i₀ at i = n - i
 
 loop-holds : tie.Need-loop-holds Inv-loop μ-loop
 loop-holds c =
     let s = c .before in
-    let l = s .args .t1 in
-    let h : length (l .components) ≡ 16 = unmapped (l .components) _ (s .good .0 .1 .1 .1 .1 .0 .1 .0 .1) in
-    (search needs, rw (c .end-before .ensures) (along-start (l .components) (l .count) (s .args .from) beginsAt endOf 0 (s .pre .0) (omega arith) (s .pre .2)))
+    let a = s .args in
+    (search needs, rw (c .end-before .ensures) (along-start (a .t1) (a .n) (a .from) beginsAt endOf 0 (s .pre .0) (omega arith) (s .pre .2)))
 
 returns : tie.Need-returns Inv-loop μ-loop
 returns c =
     let p = c .before .before .before .before in
-    let s = p .before .before in
-    let l = s .args .t1 in
-    let h : length (l .components) ≡ 16 = unmapped (l .components) _ (s .good .0 .1 .1 .1 .1 .0 .1 .0 .1) in
-    sym (p .loop .inv .1 ∙ along-fail (l .components) (l .count) (p .loop .i) beginsAt endOf (p .loop .at) unread (c .before .before .before .loop-test .taken) (omega arith)
+    let a = p .before .before .args in
+    sym (p .loop .inv .1
+    ∙ along-fail (a .t1) (a .n) (p .loop .i) beginsAt endOf (p .loop .at) noExtent (c .before .before .before .loop-test .taken) (omega arith)
     (ne-eqb _ _ (c .if1 .taken)))
-
-returns-2 : tie.Need-returns-2 Inv-loop μ-loop
-returns-2 c =
-    let l = c .before .before .before .args .t1 in
-    sym (c .before .loop .inv .1 ∙ along-done (l .components) (l .count) (c .before .loop .i) beginsAt endOf (c .before .loop .at) (c .loop-test .left))
 
 loop-again : tie.Need-loop-again Inv-loop μ-loop
 loop-again c =
     let p = c .before .before .before .before in
-    let s = p .before .before in
-    let l = s .args .t1 in
-    let h : length (l .components) ≡ 16 = unmapped (l .components) _ (s .good .0 .1 .1 .1 .1 .0 .1 .0 .1) in (
+    let a = p .before .before .args in (
       omega arith,
-      p .loop .inv .1 ∙ along-pass (l .components) (l .count) (p .loop .i) beginsAt endOf (p .loop .at) unread (c .before .before .before .loop-test .taken) (omega arith)
+      p .loop .inv .1
+          ∙ along-pass (a .t1) (a .n) (p .loop .i) beginsAt endOf (p .loop .at) noExtent (c .before .before .before .loop-test .taken) (omega arith)
           (eq-eqb _ _ (c .if1 .left)),
     )
+
+returns-2 : tie.Need-returns-2 Inv-loop μ-loop
+returns-2 c =
+    let a = c .before .before .before .args in
+    sym (c .before .loop .inv .1 ∙ along-done (a .t1) (a .n) (c .before .loop .i) beginsAt endOf (c .before .loop .at) (c .loop-test .left))
 
 pub begin-fault-spec : {M : Type 1} → statement M
 begin-fault-spec = tie.close (tie.spec Inv-loop μ-loop (λ c κs. search needs) loop-holds (λ c. search needs) (λ c. search needs) returns (λ c. search needs) (λ c. search needs) loop-again returns-2)

@@ -1,12 +1,10 @@
--- `layout::neighbours::may_before` meets its contract: the state after the first i components is that of the last of them.
-use mathlib.Core.Path.{_≡_, sym}
+-- `layout::neighbours::may_before` meets its contract: the state after the first i extents is that of the last of them.
+use mathlib.Core.Path.{sym}
 use mathlib.Core.Bool.{false}
 use native.Mathlib.Omega.{arith}
-use lib.ListN.{length}
-use Rattle.lists.specs.Slices.{unmapped}
 use Rattle.lists.specs.Loops.{after-before}
+use Rattle.layout.specs.Records.{noExtent}
 use Rattle.layout.specs.Neighbours.{mayFollow}
-use Rattle.layout.proofs.Unread.{unread}
 use borrow.Author.Needs.{needs}
 use Rattle.layout.proofs.neighbours.may_before.Statement.{statement}
 use Rattle.layout.proofs.neighbours.may_before.Tie as tie
@@ -16,10 +14,8 @@ returns c = rw (c .if1 .taken)
 
 returns-2 : tie.Need-returns-2
 returns-2 c =
-    let s = c .before .before .before in
-    let l = s .args .t1 .components in
-    let h : length l ≡ 16 = unmapped l _ (s .good .0 .1 .1 .1 .1 .0 .1 .0 .1) in
-    sym (after-before mayFollow false l (s .args .i) unread (omega arith) (omega arith))
+    let a = c .before .before .before .args in
+    sym (after-before mayFollow false (a .t1) (a .i) noExtent (omega arith) (omega arith))
 
 pub may-before-spec : {M : Type 1} → statement M
 may-before-spec = tie.close (tie.spec returns (λ c. search needs) (λ c. search needs) (λ c. search needs) returns-2)

@@ -12,18 +12,18 @@ use Rattle.lists.specs.Bools.{bool-cases}
 use Rattle.lists.specs.Tests.{firstFailed, ahead}
 use Rattle.lists.specs.Slices.{slice-next, slice-done, take-next}
 use Rattle.lists.specs.Loops.{ahead-done}
-use Rattle.layout.specs.declared.Extent.{Extent}
+use Rattle.layout.specs.declared.Neighbour.{Neighbour}
 use Rattle.layout.specs.Neighbours.{isEmpty, emptyOk, lastOk, lastTests}
 
 -- The last component has no follower to ask about.
-pub empty-end : (l : List Extent) (n i : ℕ) (d : Extent) → i ≤ n → n ≤ i + 1 → n ≤ length l
+pub empty-end : (l : List Neighbour) (n i : ℕ) (d : Neighbour) → i ≤ n → n ≤ i + 1 → n ≤ length l
     → i + firstFailed (ahead emptyOk (slice i n l)) ≡ n
 empty-end l n i d h k w = bool-cases (ltb i n)
     (λ e. let lt = ltb-true i n e in
     rw (slice-next l n i d lt (omega arith), slice-done l n (i + 1) k) (omega arith))
     (λ e. ahead-done l n i emptyOk (ltb-false i n e) ∙ omega (arith, ltb-false i n e))
 
-not-last : (more : Bool) (x c : Extent) (xs : List Extent) → lastOk more x (xs ++ (c ∷ [])) ≡ true
+not-last : (more : Bool) (x c : Neighbour) (xs : List Neighbour) → lastOk more x (xs ++ (c ∷ [])) ≡ true
 not-last more x c [] = refl
 not-last more x c (y ∷ xs) = refl
 
@@ -31,14 +31,14 @@ suc-cond : (b : Bool) (n : ℕ) → suc (cond b (suc n) n) ≡ cond b (suc (suc 
 suc-cond true n = refl
 suc-cond false n = refl
 
-last-append : (more : Bool) (xs : List Extent) (c : Extent)
+last-append : (more : Bool) (xs : List Neighbour) (c : Neighbour)
     → firstFailed (lastTests more (xs ++ (c ∷ []))) ≡ cond (more || not (isEmpty c)) (suc (length xs)) (length xs)
 last-append more [] c = refl
 last-append more (x ∷ xs) c =
     rw (not-last more x c xs) (ap suc (last-append more xs c) ∙ suc-cond (more || not (isEmpty c)) (length xs))
 
 -- Of the tests of the last component, only the last can fail.
-pub last-test : (more : Bool) (l : List Extent) (n : ℕ) (d : Extent) → 0 < n → n ≤ length l
+pub last-test : (more : Bool) (l : List Neighbour) (n : ℕ) (d : Neighbour) → 0 < n → n ≤ length l
     → firstFailed (lastTests more (take n l)) ≡ cond (more || not (isEmpty (getD l (n - 1) d))) n (n - 1)
 last-test more l n d h k =
     let e : n ≡ n - 1 + 1 = omega arith in

@@ -15,14 +15,14 @@ use Rattle.lists.specs.Counting.{fresh-count, count-fresh}
 use Rattle.layout.specs.declared.Object.{Object}
 use Rattle.layout.specs.declared.Component.{Component}
 use Rattle.layout.specs.declared.Layout.{Layout}
-use Rattle.layout.specs.Records.{noObject, extentOf, extentsOf, recordCount, idsOf, recordsOf, recordsIn, view}
-use Rattle.layout.specs.Fields.{isUnit, extensionOk, stripedOk, kindOk, isMinusOne, isTarget, firstTargetOk, targetOk}
+use Rattle.layout.specs.Records.{noObject, neighbourOf, neighboursOf, recordCount, idsOf, recordsOf, recordsIn, view}
+use Rattle.layout.specs.Fields.{nonzeroMultiple, extensionOk, stripedOk, kindOk, isMinusOne, isTarget, firstTargetOk, targetOk}
 use Rattle.layout.specs.Fields.{fieldsOk, fieldTests}
 use Rattle.layout.specs.Neighbours.{beginsAt, endOf, beginTests, followsOk, mayFollow, followTests, isEmpty, emptyOk}
 use Rattle.layout.specs.Neighbours.{emptyTests, lastOk, lastTests, neighboursHold}
 use Rattle.layout.specs.Distinct.{sameObject, idTests, objectTests, distinctHold}
 use Rattle.layout.specs.Rules.{ruleBroken, valid}
-use Rattle.layout.specs.Facts.{Unit65536, Striped, IsInit, IsExtension, Kind, isInit, isExtension, isBare}
+use Rattle.layout.specs.Facts.{NonzeroMultiple, Striped, IsInit, IsExtension, Kind, isInit, isExtension, isBare}
 use Rattle.layout.specs.Facts.{Fields, Follower, Linked, Keeps, Valid}
 
 -- Two object records that name the same target and number are the same.
@@ -40,15 +40,15 @@ unfolding sameObject
 same-object-refl a = rw (eq-eqb (a .target) (a .target) refl, eq-eqb (a .number) (a .number) refl)
 
 -- The test of a nonzero multiple of 65,536, both ways.
-unit-facts : (n : ℕ) → isUnit n ≡ true → Unit65536 n
-unfolding isUnit
-unit-facts n e =
+multiple-facts : (n : ℕ) → nonzeroMultiple n ≡ true → NonzeroMultiple n
+unfolding nonzeroMultiple
+multiple-facts n e =
     let p = both-true (ltb 0 n) (eqb (n % 65536) 0) e in
     record { nonzero = ltb-true 0 n (p .0); multiple = eqb-true (n % 65536) 0 (p .1) }
 
-facts-unit : (n : ℕ) → Unit65536 n → isUnit n ≡ true
-unfolding isUnit
-facts-unit n u = rw (lt-ltb 0 n (u .nonzero), u .multiple)
+facts-multiple : (n : ℕ) → NonzeroMultiple n → nonzeroMultiple n ≡ true
+unfolding nonzeroMultiple
+facts-multiple n u = rw (lt-ltb 0 n (u .nonzero), u .multiple)
 
 -- The test of the first target where a component is not init, both ways.
 minus-one : (t : Bool) (z : ℤ) (os : List Object) → t ≡ false → firstTargetOk t z os ≡ true → z ≡ negsuc 0
@@ -57,9 +57,9 @@ minus-one true z os h e = absurd (true≢false h)
 minus-one false (pos n) os h e = absurd (false≢true e)
 minus-one false (negsuc n) os h e = ap negsuc (eqb-true n 0 e)
 
-one-minus : (t : Bool) (z : ℤ) (os : List Object) → t ≡ false → z ≡ negsuc 0 → firstTargetOk t z os ≡ true
+minus-one-test : (t : Bool) (z : ℤ) (os : List Object) → t ≡ false → z ≡ negsuc 0 → firstTargetOk t z os ≡ true
 unfolding firstTargetOk isMinusOne
-one-minus t z os h e = rw (h, e)
+minus-one-test t z os h e = rw (h, e)
 
 -- The test of the first target of an init component, both ways.
 first-target : (t : Bool) (z : ℤ) (os : List Object) → t ≡ true → firstTargetOk t z os ≡ true
@@ -70,11 +70,11 @@ first-target true z [] h e = absurd (false≢true e)
 first-target true (pos n) (o ∷ os) h e = ap pos (eqb-true n (o .target) e)
 first-target true (negsuc n) (o ∷ os) h e = absurd (false≢true e)
 
-target-first : (t : Bool) (z : ℤ) (os : List Object) → t ≡ true → 1 ≤ length os → z ≡ pos (getD os 0 noObject .target)
+first-target-test : (t : Bool) (z : ℤ) (os : List Object) → t ≡ true → 1 ≤ length os → z ≡ pos (getD os 0 noObject .target)
     → firstTargetOk t z os ≡ true
 unfolding firstTargetOk isTarget
-target-first t z [] h k e = absurd (omega arith)
-target-first t z (o ∷ os) h k e = rw (h, e) (eq-eqb (o .target) (o .target) refl)
+first-target-test t z [] h k e = absurd (omega arith)
+first-target-test t z (o ∷ os) h k e = rw (h, e) (eq-eqb (o .target) (o .target) refl)
 
 module _ (c : Component) where
   -- The test of the stripe fields of a component that is not an extension, both ways.
@@ -85,14 +85,14 @@ module _ (c : Component) where
   unfolding stripedOk
   striped-facts e =
       let n = c .«stripe_count» in
-      let u = isUnit (c .«stripe_size») in
+      let u = nonzeroMultiple (c .«stripe_size») in
       let x = eqb (c .«extension_size») 0 in
       let i = not (c .init) || ltb (c .begin) (c .end) in
       let p = conjunction-at (leb 1 n) (leb n 16 ∷ u ∷ x ∷ i ∷ []) e in (
         record {
           some = leb-true 1 n (p 0);
           few = leb-true n 16 (p 1);
-          size = unit-facts (c .«stripe_size») (p 2);
+          size = multiple-facts (c .«stripe_size») (p 2);
           no-extension = eqb-true (c .«extension_size») 0 (p 3);
         },
         λ t. ltb-true (c .begin) (c .end) (implies-true (c .init) (ltb (c .begin) (c .end)) (p 4) t),
@@ -103,7 +103,7 @@ module _ (c : Component) where
   facts-striped s h = rw (
     le-leb 1 (c .«stripe_count») (s .some),
     le-leb (c .«stripe_count») 16 (s .few),
-    facts-unit (c .«stripe_size») (s .size),
+    facts-multiple (c .«stripe_size») (s .size),
     s .no-extension,
   ) (true-implies (c .init) (ltb (c .begin) (c .end)) (λ t. lt-ltb (c .begin) (c .end) (h t)))
 
@@ -140,7 +140,7 @@ module _ (c : Component) where
       bool-cases (c .extension)
       (λ x. let n = eqb (c .«stripe_count») 0 in
       let s = eqb (c .«stripe_size») 0 in
-      let p = conjunction-at (ltb (c .begin) (c .end)) (n ∷ s ∷ isUnit (c .«extension_size») ∷ []) (rw x at k) in
+      let p = conjunction-at (ltb (c .begin) (c .end)) (n ∷ s ∷ nonzeroMultiple (c .«extension_size») ∷ []) (rw x at k) in
       isExtension
       record {
         init = i;
@@ -148,7 +148,7 @@ module _ (c : Component) where
         extent = ltb-true (c .begin) (c .end) (p 0);
         no-stripes = eqb-true (c .«stripe_count») 0 (p 1);
         no-size = eqb-true (c .«stripe_size») 0 (p 2);
-        size = unit-facts (c .«extension_size») (p 3);
+        size = multiple-facts (c .«extension_size») (p 3);
         first = z;
       })
       (λ x. isBare
@@ -217,14 +217,14 @@ unfolding kindOk extensionOk
 kind-test {c} (isInit k) = rw (k .extension) (facts-striped c (k .striped) (λ i. k .extent))
 kind-test {c} (isExtension k) =
     rw (k .extension, lt-ltb (c .begin) (c .end) (k .extent), k .no-stripes, k .no-size)
-    (facts-unit (c .«extension_size») (k .size))
+    (facts-multiple (c .«extension_size») (k .size))
 kind-test {c} (isBare k) = rw (k .extension) (facts-striped c (k .striped) (λ i. clash i (k .init)))
 
 first-test : {c : Component} → Kind c → firstTest c ≡ true
 first-test {c} (isInit k) =
-    target-first (c .init) (c .«first_target») (recordsOf c) (k .init) (omega (arith, k .records, k .striped .some)) (k .first)
-first-test {c} (isExtension k) = one-minus (c .init) (c .«first_target») (recordsOf c) (k .init) (k .first)
-first-test {c} (isBare k) = one-minus (c .init) (c .«first_target») (recordsOf c) (k .init) (k .first)
+    first-target-test (c .init) (c .«first_target») (recordsOf c) (k .init) (omega (arith, k .records, k .striped .some)) (k .first)
+first-test {c} (isExtension k) = minus-one-test (c .init) (c .«first_target») (recordsOf c) (k .init) (k .first)
+first-test {c} (isBare k) = minus-one-test (c .init) (c .«first_target») (recordsOf c) (k .init) (k .first)
 
 targets-test : {c : Component} → Kind c → every (each targetOk (recordsOf c)) ≡ true
 targets-test {c} (isInit k) =
@@ -252,31 +252,31 @@ facts-fields [] f = refl
 facts-fields (c ∷ cs) f = true-both (facts-kind c (f .0) (f .1)) (facts-fields cs (f .2))
 
 -- The third and the fourth part of the neighbour rule for one component and what follows it, both ways.
-follower-facts : (more : Bool) (c : Component) (cs : List Component) → emptyOk (extentOf c) (extentsOf cs) ≡ true → lastOk more (extentOf c) (extentsOf cs) ≡ true
+follower-facts : (more : Bool) (c : Component) (cs : List Component) → emptyOk (neighbourOf c) (neighboursOf cs) ≡ true → lastOk more (neighbourOf c) (neighboursOf cs) ≡ true
     → Follower more c cs
-follower-facts more c [] e l = λ m. not-true (isEmpty (extentOf c)) (rw m at l)
-follower-facts more c (d ∷ cs) e l = λ i. beq-true (isEmpty (extentOf c)) (d .extension) (rw i at e)
+follower-facts more c [] e l = λ m. not-true (isEmpty (neighbourOf c)) (rw m at l)
+follower-facts more c (d ∷ cs) e l = λ i. beq-true (isEmpty (neighbourOf c)) (d .extension) (rw i at e)
 
-facts-empty : (more : Bool) (c : Component) (cs : List Component) → Follower more c cs → emptyOk (extentOf c) (extentsOf cs) ≡ true
+facts-empty : (more : Bool) (c : Component) (cs : List Component) → Follower more c cs → emptyOk (neighbourOf c) (neighboursOf cs) ≡ true
 facts-empty more c [] f = refl
 facts-empty more c (d ∷ cs) f = bool-cases (c .init) (λ i. rw i) (λ i. rw (i, f i) (true-beq (d .extension)))
 
-facts-last : (more : Bool) (c : Component) (cs : List Component) → Follower more c cs → lastOk more (extentOf c) (extentsOf cs) ≡ true
+facts-last : (more : Bool) (c : Component) (cs : List Component) → Follower more c cs → lastOk more (neighbourOf c) (neighboursOf cs) ≡ true
 facts-last true c [] f = refl
 facts-last false c [] f = ap not (f refl)
 facts-last more c (d ∷ cs) f = refl
 
 module _ (more : Bool) where
   -- The four parts for a list, both ways: the component before it ends at `at`, and `may` says that an extension may stand first.
-  linked-from : (at : ℕ) (may : Bool) (cs : List Component) → every (along beginsAt endOf at (extentsOf cs)) ≡ true
-      → every (along followsOk mayFollow may (extentsOf cs)) ≡ true → every (emptyTests (extentsOf cs)) ≡ true → every (lastTests more (extentsOf cs)) ≡ true
+  linked-from : (at : ℕ) (may : Bool) (cs : List Component) → every (along beginsAt endOf at (neighboursOf cs)) ≡ true
+      → every (along followsOk mayFollow may (neighboursOf cs)) ≡ true → every (emptyTests (neighboursOf cs)) ≡ true → every (lastTests more (neighboursOf cs)) ≡ true
       → Linked more at may cs
   linked-from at may [] b f e l = tt
   linked-from at may (c ∷ cs) b f e l =
-      let b' = both-true (eqb (c .begin) at) (every (along beginsAt endOf (c .end) (extentsOf cs))) b in
-      let f' = both-true (not (c .extension) || may) (every (along followsOk mayFollow (not (c .extension)) (extentsOf cs))) f in
-      let e' = both-true (emptyOk (extentOf c) (extentsOf cs)) (every (emptyTests (extentsOf cs))) e in
-      let l' = both-true (lastOk more (extentOf c) (extentsOf cs)) (every (lastTests more (extentsOf cs))) l in (
+      let b' = both-true (eqb (c .begin) at) (every (along beginsAt endOf (c .end) (neighboursOf cs))) b in
+      let f' = both-true (not (c .extension) || may) (every (along followsOk mayFollow (not (c .extension)) (neighboursOf cs))) f in
+      let e' = both-true (emptyOk (neighbourOf c) (neighboursOf cs)) (every (emptyTests (neighboursOf cs))) e in
+      let l' = both-true (lastOk more (neighbourOf c) (neighboursOf cs)) (every (lastTests more (neighboursOf cs))) l in (
         eqb-true (c .begin) at (b' .0),
         implies-true (c .extension) may (f' .0),
         follower-facts more c cs (e' .0) (l' .0),
@@ -284,8 +284,8 @@ module _ (more : Bool) where
       )
 
   from-linked : (at : ℕ) (may : Bool) (cs : List Component) → Linked more at may cs
-      → (every (along beginsAt endOf at (extentsOf cs)) ≡ true) × (every (along followsOk mayFollow may (extentsOf cs)) ≡ true)
-      × (every (emptyTests (extentsOf cs)) ≡ true) × (every (lastTests more (extentsOf cs)) ≡ true)
+      → (every (along beginsAt endOf at (neighboursOf cs)) ≡ true) × (every (along followsOk mayFollow may (neighboursOf cs)) ≡ true)
+      × (every (emptyTests (neighboursOf cs)) ≡ true) × (every (lastTests more (neighboursOf cs)) ≡ true)
   from-linked at may [] k = (refl, refl, refl, refl)
   from-linked at may (c ∷ cs) k =
       let r = from-linked (c .end) (not (c .extension)) cs (k .3) in (
@@ -296,15 +296,15 @@ module _ (more : Bool) where
       )
 
   -- A list of which the neighbour rule holds has the facts of its neighbours.
-  pub linked-facts : (cs : List Component) → neighboursHold more (extentsOf cs) ≡ true → Linked more 0 false cs
+  pub linked-facts : (cs : List Component) → neighboursHold more (neighboursOf cs) ≡ true → Linked more 0 false cs
   unfolding neighboursHold
   linked-facts cs e =
-      let f = every (followTests (extentsOf cs)) in
-      let p = conjunction-at (every (beginTests (extentsOf cs))) (f ∷ every (emptyTests (extentsOf cs)) ∷ every (lastTests more (extentsOf cs)) ∷ []) e in
+      let f = every (followTests (neighboursOf cs)) in
+      let p = conjunction-at (every (beginTests (neighboursOf cs))) (f ∷ every (emptyTests (neighboursOf cs)) ∷ every (lastTests more (neighboursOf cs)) ∷ []) e in
       linked-from 0 false cs (p 0) (p 1) (p 2) (p 3)
 
   -- The neighbour rule holds of a list with the facts of its neighbours.
-  pub facts-linked : (cs : List Component) → Linked more 0 false cs → neighboursHold more (extentsOf cs) ≡ true
+  pub facts-linked : (cs : List Component) → Linked more 0 false cs → neighboursHold more (neighboursOf cs) ≡ true
   unfolding neighboursHold
   facts-linked cs k =
       let p = from-linked 0 false cs k in true-both (true-both (true-both (p .0) (p .1)) (p .2)) (p .3)
@@ -318,9 +318,9 @@ none-broken false b c e = absurd (omega arith)
 
 -- Of a list that breaks no rule, all three rules hold.
 pub rules-hold : (more : Bool) (cs : List Component) → ruleBroken more cs ≡ 0
-    → (every (fieldTests cs) ≡ true) × (neighboursHold more (extentsOf cs) ≡ true) × (distinctHold cs ≡ true)
+    → (every (fieldTests cs) ≡ true) × (neighboursHold more (neighboursOf cs) ≡ true) × (distinctHold cs ≡ true)
 unfolding ruleBroken
-rules-hold more cs e = none-broken (every (fieldTests cs)) (neighboursHold more (extentsOf cs)) (distinctHold cs) e
+rules-hold more cs e = none-broken (every (fieldTests cs)) (neighboursHold more (neighboursOf cs)) (distinctHold cs) e
 
 -- A list that breaks no rule keeps the component rules.
 pub keeps-facts : (more : Bool) (cs : List Component) → ruleBroken more cs ≡ 0 → Keeps more cs
@@ -377,6 +377,6 @@ startsExtension (c ∷ cs) = c .extension
 
 -- With no pages outstanding, a component that is not init is empty exactly if an extension directly follows.
 pub follower-empty : (c : Component) (cs : List Component) → Follower false c cs → c .init ≡ false
-    → isEmpty (extentOf c) ≡ startsExtension cs
+    → isEmpty (neighbourOf c) ≡ startsExtension cs
 follower-empty c [] f i = f refl
 follower-empty c (d ∷ cs) f i = f i

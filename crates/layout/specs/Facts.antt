@@ -11,12 +11,12 @@ use Rattle.lists.specs.Counting.{count}
 use Rattle.layout.specs.declared.Object.{Object}
 use Rattle.layout.specs.declared.Component.{Component}
 use Rattle.layout.specs.declared.Layout.{Layout}
-use Rattle.layout.specs.Records.{noObject, extentOf, idsOf, recordsOf, recordsIn, view}
+use Rattle.layout.specs.Records.{noObject, neighbourOf, idsOf, recordsOf, recordsIn, view}
 use Rattle.layout.specs.Neighbours.{isEmpty}
 use Rattle.layout.specs.Distinct.{sameObject}
 
 -- A nonzero multiple of 65,536.
-pub record Unit65536 (n : ℕ) : Type 0 where
+pub record NonzeroMultiple (n : ℕ) : Type 0 where
   pub nonzero : 0 < n
   pub multiple : n % 65536 ≡ 0
 
@@ -24,7 +24,7 @@ pub record Unit65536 (n : ℕ) : Type 0 where
 pub record Striped (c : Component) : Type 0 where
   pub some : 1 ≤ c .«stripe_count»
   pub few : c .«stripe_count» ≤ 16
-  pub size : Unit65536 (c .«stripe_size»)
+  pub size : NonzeroMultiple (c .«stripe_size»)
   pub no-extension : c .«extension_size» ≡ 0
 
 -- An init component.
@@ -44,7 +44,7 @@ pub record IsExtension (c : Component) : Type 0 where
   pub extent : c .begin < c .end
   pub no-stripes : c .«stripe_count» ≡ 0
   pub no-size : c .«stripe_size» ≡ 0
-  pub size : Unit65536 (c .«extension_size»)
+  pub size : NonzeroMultiple (c .«extension_size»)
   pub first : c .«first_target» ≡ negsuc 0
 
 -- A component that is neither: bare.
@@ -66,11 +66,11 @@ abbrev pub Fields : List Component → Type 0
 Fields [] = Unit {0}
 Fields (c ∷ cs) = (1 ≤ c .id) × Kind c × Fields cs
 
--- What follows a component that is not init, and the last one: empty exactly if an extension directly follows, and with no
--- pages outstanding the last is not empty.
+-- The third and the fourth part of the neighbour rule, of a component and those that follow it. With a follower: if it is not
+-- init, it is empty exactly if the follower is an extension. With none: if no pages are outstanding, it is not empty.
 abbrev pub Follower : Bool → Component → List Component → Type 0
-Follower more c [] = more ≡ false → isEmpty (extentOf c) ≡ false
-Follower more c (d ∷ cs) = c .init ≡ false → isEmpty (extentOf c) ≡ d .extension
+Follower more c [] = more ≡ false → isEmpty (neighbourOf c) ≡ false
+Follower more c (d ∷ cs) = c .init ≡ false → isEmpty (neighbourOf c) ≡ d .extension
 
 -- Refusal 7 does not apply to the list, where the component before it ends at `at`, and `may` says that an extension may stand
 -- first.

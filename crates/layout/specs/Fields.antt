@@ -11,19 +11,19 @@ use Rattle.layout.specs.declared.Component.{Component}
 use Rattle.layout.specs.Records.{recordCount, recordsOf}
 
 -- "a nonzero multiple of 65,536"
-unfoldable pub isUnit : ℕ → Bool
-isUnit n = ltb 0 n && eqb (n % 65536) 0
+unfoldable pub nonzeroMultiple : ℕ → Bool
+nonzeroMultiple n = ltb 0 n && eqb (n % 65536) 0
 
 -- "An extension has begin below end, stripe count 0, stripe size 0 and an extension size that is a nonzero multiple of
 -- 65,536."
 unfoldable pub extensionOk : ℕ → ℕ → ℕ → ℕ → ℕ → Bool
-extensionOk begin end count size extension = ltb begin end && eqb count 0 && eqb size 0 && isUnit extension
+extensionOk begin end count size extension = ltb begin end && eqb count 0 && eqb size 0 && nonzeroMultiple extension
 
 -- "Any other has stripe count 1 to 16, a stripe size that is a nonzero multiple of 65,536, and extension size 0; if init,
 -- begin is below end."
 unfoldable pub stripedOk : Bool → ℕ → ℕ → ℕ → ℕ → ℕ → Bool
 stripedOk init begin end count size extension =
-    leb 1 count && leb count 16 && isUnit size && eqb extension 0 && (not init || ltb begin end)
+    leb 1 count && leb count 16 && nonzeroMultiple size && eqb extension 0 && (not init || ltb begin end)
 
 -- An extension, or any other.
 unfoldable pub kindOk : Bool → Bool → ℕ → ℕ → ℕ → ℕ → ℕ → Bool
@@ -51,7 +51,8 @@ abbrev pub targetOk : Object → Bool
 targetOk o = leb (o .target) 65534
 
 -- The rules of the fields: "id at least 1; begin at most end; init and extension not both", then the kinds, the first target
--- and the targets; and an init component has as many object records as its stripe count.
+-- and the targets. The last clause, that the object records are all there, follows where the array has 16 places; it stands here
+-- so that laws about lists may use it.
 unfoldable pub fieldsOk : Component → Bool
 fieldsOk c =
     leb 1 (c .id)

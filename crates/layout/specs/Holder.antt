@@ -5,7 +5,7 @@ use mathlib.Core.Bool.{Bool, false, cond, _&&_, _||_}
 use lib.Dec.{ltb, leb}
 use Rattle.lists.specs.Tests.{after}
 use Rattle.layout.specs.declared.Component.{Component}
-use Rattle.layout.specs.Records.{extentsOf}
+use Rattle.layout.specs.Records.{neighboursOf}
 use Rattle.layout.specs.Neighbours.{endOf}
 
 -- "an extent is [begin, end)": does the component's extent hold byte b?
@@ -24,4 +24,4 @@ covers (c ∷ cs) b = holds c b || covers cs b
 
 -- Where the last component ends; 0 where there is none.
 abbrev pub lastEnd : List Component → ℕ
-lastEnd cs = after endOf 0 (extentsOf cs)
+lastEnd cs = after endOf 0 (neighboursOf cs)

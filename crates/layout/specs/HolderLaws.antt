@@ -1,5 +1,5 @@
 -- Which component holds a byte, where the components stand end to end, and which bytes are covered.
-use Prim.Native.Nat.{ℕ, zero, suc, _≤_, _<_}
+use Prim.Native.Nat.{ℕ, zero, suc, _-_, _^_, _≤_, _<_}
 use mathlib.Core.Path.{_≡_, refl, sym, ap, _∙_}
 use mathlib.Core.List.{List, [], _∷_}
 use mathlib.Core.Bool.{Bool, true, false, not, cond}
@@ -10,7 +10,7 @@ use borrow.Author.Tests.{ltb-true, ltb-false, leb-true, lt-ltb, le-ltb, le-leb}
 use Rattle.lists.specs.Bools.{bool-cases, both-true}
 use Rattle.lists.specs.Tests.{after}
 use Rattle.layout.specs.declared.Component.{Component}
-use Rattle.layout.specs.Records.{noComponent, extentsOf}
+use Rattle.layout.specs.Records.{noComponent, neighboursOf}
 use Rattle.layout.specs.Neighbours.{endOf}
 use Rattle.layout.specs.Holder.{holds, holderOf, covers, lastEnd}
 use Rattle.layout.specs.Facts.{Fields, Linked}
@@ -28,6 +28,10 @@ holds-past c b h = bool-cases (leb (c .begin) b) (λ e. rw (e, le-ltb b (c .end)
 -- A component that begins at or before a byte and ends above it holds it.
 holds-in : (c : Component) (b : ℕ) → c .begin ≤ b → b < c .end → holds c b ≡ true
 holds-in c b h k = rw (le-leb (c .begin) b h, lt-ltb b (c .end) k)
+
+-- "EOF is 2^64 - 1; an extent is [begin, end), so byte 2^64 - 1 is in none."
+pub eof-in-none : (c : Component) → c .end ≤ 2 ^ 64 - 1 → holds c (2 ^ 64 - 1) ≡ false
+eof-in-none c h = holds-past c (2 ^ 64 - 1) h
 
 -- The position of a byte's component is at most the number of components.
 pub holder-le : (b : ℕ) (cs : List Component) → holderOf b cs ≤ length cs
@@ -93,19 +97,19 @@ module _ (more : Bool) where
       (ap suc (at-most-one (c .end) (not (c .extension)) cs (k .3) (f .2) b i (omega arith) e))
 
   -- The last end is not below the place where the list begins.
-  last-above : (at : ℕ) (may : Bool) (cs : List Component) → Linked more at may cs → Fields cs → at ≤ after endOf at (extentsOf cs)
+  last-above : (at : ℕ) (may : Bool) (cs : List Component) → Linked more at may cs → Fields cs → at ≤ after endOf at (neighboursOf cs)
   last-above at may [] k f = omega arith
   last-above at may (c ∷ cs) k f = omega (arith, kind-ordered (f .1), last-above (c .end) (not (c .extension)) cs (k .3) (f .2))
 
   -- The list begins at `at`, at or below the byte.
   covers-from : (at : ℕ) (may : Bool) (cs : List Component) → Linked more at may cs → Fields cs → (b : ℕ) → at ≤ b
-      → covers cs b ≡ ltb b (after endOf at (extentsOf cs))
+      → covers cs b ≡ ltb b (after endOf at (neighboursOf cs))
   covers-from at may [] k f b h = sym (le-ltb b at h)
   covers-from at may (c ∷ cs) k f b h =
       bool-cases (ltb b (c .end))
       (λ e. let l = ltb-true b (c .end) e in
       rw (holds-in c b (omega arith) l)
-      (sym (lt-ltb b (after endOf (c .end) (extentsOf cs)) (omega (arith, last-above (c .end) (not (c .extension)) cs (k .3) (f .2))))))
+      (sym (lt-ltb b (after endOf (c .end) (neighboursOf cs)) (omega (arith, last-above (c .end) (not (c .extension)) cs (k .3) (f .2))))))
       (λ e. let p = ltb-false b (c .end) e in
       rw (holds-past c b p) (covers-from (c .end) (not (c .extension)) cs (k .3) (f .2) b p))
 

@@ -12,8 +12,8 @@ use Rattle.lists.specs.Bools.{clash, both-true}
 use Rattle.lists.specs.Tests.{every, every-take, take-along, take-each, conjunction-at}
 use Rattle.lists.specs.Counting.{unseen, seenWith, count-append}
 use Rattle.layout.specs.declared.Component.{Component}
-use Rattle.layout.specs.declared.Extent.{Extent}
-use Rattle.layout.specs.Records.{extentsOf, idsOf, recordsOf, recordsIn}
+use Rattle.layout.specs.declared.Neighbour.{Neighbour}
+use Rattle.layout.specs.Records.{neighboursOf, idsOf, recordsOf, recordsIn}
 use Rattle.layout.specs.Fields.{fieldsOk, fieldTests}
 use Rattle.layout.specs.Neighbours.{beginsAt, endOf, beginTests, followsOk, mayFollow, followTests, emptyOk}
 use Rattle.layout.specs.Neighbours.{emptyTests, lastTests, neighboursHold}
@@ -32,11 +32,11 @@ pub idsOf-append : (xs ys : List Component) → idsOf (xs ++ ys) ≡ idsOf xs ++
 idsOf-append [] ys = refl
 idsOf-append (c ∷ xs) ys = rw (idsOf-append xs ys)
 
--- The extents of the first components are the first extents.
-pub extentsOf-take : (k : ℕ) (cs : List Component) → extentsOf (take k cs) ≡ take k (extentsOf cs)
-extentsOf-take zero cs = refl
-extentsOf-take (suc k) [] = refl
-extentsOf-take (suc k) (c ∷ cs) = rw (extentsOf-take k cs)
+-- The first components as the neighbour rules see them.
+pub neighboursOf-take : (k : ℕ) (cs : List Component) → neighboursOf (take k cs) ≡ take k (neighboursOf cs)
+neighboursOf-take zero cs = refl
+neighboursOf-take (suc k) [] = refl
+neighboursOf-take (suc k) (c ∷ cs) = rw (neighboursOf-take k cs)
 
 -- The ids of the first components are the first ids.
 pub idsOf-take : (k : ℕ) (cs : List Component) → idsOf (take k cs) ≡ take k (idsOf cs)
@@ -82,14 +82,14 @@ module _ (more : Bool) where
   keeps-take k cs h = keeps-prefix (take k cs) (drop k cs) (rw (take-append-drop k cs) h)
 
 -- The third part looks at a component and its follower, so its first k tests look at k + 1 components.
-take-empties : (k : ℕ) (cs : List Extent) → take k (emptyTests cs) ≡ take k (emptyTests (take (suc k) cs))
+take-empties : (k : ℕ) (cs : List Neighbour) → take k (emptyTests cs) ≡ take k (emptyTests (take (suc k) cs))
 take-empties zero cs = refl
 take-empties (suc k) [] = refl
 take-empties (suc k) (c ∷ []) = refl
 take-empties (suc k) (c ∷ d ∷ cs) = ap (λ (ts : List Bool). emptyOk c (d ∷ cs) ∷ ts) (take-empties k (d ∷ cs))
 
 -- So where the tests pass for the first k components alone, the first k - 1 pass for the whole list.
-empties-take : (k : ℕ) (cs : List Extent) → every (emptyTests (take k cs)) ≡ true → every (take (k - 1) (emptyTests cs)) ≡ true
+empties-take : (k : ℕ) (cs : List Neighbour) → every (emptyTests (take k cs)) ≡ true → every (take (k - 1) (emptyTests cs)) ≡ true
 empties-take zero cs e = refl
 empties-take (suc k) cs e =
     let z : suc k - 1 ≡ k = omega arith in
@@ -98,14 +98,14 @@ empties-take (suc k) cs e =
 -- Where the first k components are known to break no rule with pages outstanding:
 module _ (k : ℕ) (cs : List Component) (e : ruleBroken true (take k cs) ≡ 0) where
   -- the first three parts of the neighbour rule hold of them;
-  parts : (every (beginTests (extentsOf (take k cs))) ≡ true) × (every (followTests (extentsOf (take k cs))) ≡ true)
-      × (every (emptyTests (extentsOf (take k cs))) ≡ true)
+  parts : (every (beginTests (neighboursOf (take k cs))) ≡ true) × (every (followTests (neighboursOf (take k cs))) ≡ true)
+      × (every (emptyTests (neighboursOf (take k cs))) ≡ true)
   unfolding neighboursHold
   parts =
       let t = take k cs in
-      let f = every (followTests (extentsOf t)) in
+      let f = every (followTests (neighboursOf t)) in
       let n = rules-hold true t e .1 in
-      let p = conjunction-at (every (beginTests (extentsOf t))) (f ∷ every (emptyTests (extentsOf t)) ∷ every (lastTests true (extentsOf t)) ∷ []) n in
+      let p = conjunction-at (every (beginTests (neighboursOf t))) (f ∷ every (emptyTests (neighboursOf t)) ∷ every (lastTests true (neighboursOf t)) ∷ []) n in
       (p 0, p 1, p 2)
 
   -- the two parts of the rule of distinctness hold of them;
@@ -118,16 +118,16 @@ module _ (k : ℕ) (cs : List Component) (e : ruleBroken true (take k cs) ≡ 0)
   prefix-fields = ap every (take-each fieldsOk k cs) ∙ rules-hold true (take k cs) e .0
 
   -- the first k components begin where they should;
-  pub prefix-begins : every (take k (beginTests (extentsOf cs))) ≡ true
-  prefix-begins = ap every (take-along beginsAt endOf k 0 (extentsOf cs)) ∙ rw (← extentsOf-take k cs) (parts .0)
+  pub prefix-begins : every (take k (beginTests (neighboursOf cs))) ≡ true
+  prefix-begins = ap every (take-along beginsAt endOf k 0 (neighboursOf cs)) ∙ rw (← neighboursOf-take k cs) (parts .0)
 
   -- each extension among the first k components directly follows a component that is not one;
-  pub prefix-follows : every (take k (followTests (extentsOf cs))) ≡ true
-  prefix-follows = ap every (take-along followsOk mayFollow k false (extentsOf cs)) ∙ rw (← extentsOf-take k cs) (parts .1)
+  pub prefix-follows : every (take k (followTests (neighboursOf cs))) ≡ true
+  prefix-follows = ap every (take-along followsOk mayFollow k false (neighboursOf cs)) ∙ rw (← neighboursOf-take k cs) (parts .1)
 
   -- the first k - 1 components pass the test of emptiness (the k-th is asked only now that its follower is there);
-  pub prefix-empties : every (take (k - 1) (emptyTests (extentsOf cs))) ≡ true
-  prefix-empties = empties-take k (extentsOf cs) (rw (← extentsOf-take k cs) (parts .2))
+  pub prefix-empties : every (take (k - 1) (emptyTests (neighboursOf cs))) ≡ true
+  prefix-empties = empties-take k (neighboursOf cs) (rw (← neighboursOf-take k cs) (parts .2))
 
   -- each of the first k ids differs from those before it;
   pub prefix-ids : every (take k (idTests cs)) ≡ true

@@ -2,13 +2,13 @@
 -- places of an array. Places past a count mean nothing, and no rule looks at them.
 use Prim.Native.Nat.{ℕ}
 use mathlib.Core.List.{List, [], _∷_, _++_}
-use mathlib.Core.Bool.{false, cond}
+use mathlib.Core.Bool.{Bool, false, cond}
 use lib.IntN.{pos}
 use lib.ListN.{length, take, replicate}
 use lib.Seq.{sets}
 use Rattle.layout.specs.declared.Object.{Object}
 use Rattle.layout.specs.declared.Component.{Component}
-use Rattle.layout.specs.declared.Extent.{Extent}
+use Rattle.layout.specs.declared.Neighbour.{Neighbour}
 use Rattle.layout.specs.declared.Layout.{Layout}
 use Rattle.layout.specs.declared.Outline.{Outline}
 
@@ -32,23 +32,27 @@ noComponent =
       objects = replicate 16 noObject;
     }
 
--- What the neighbour rules ask of a component: its extent and its flags.
-abbrev pub extentOf : Component → Extent
-extentOf c = record { init = c .init; extension = c .extension; begin = c .begin; end = c .end }
+-- A component as the neighbour rules see it: its extent and its flags.
+abbrev pub neighbourOf : Component → Neighbour
+neighbourOf c = record { init = c .init; extension = c .extension; begin = c .begin; end = c .end }
 
--- The extents of a list of components.
-abbrev pub extentsOf : List Component → List Extent
-extentsOf [] = []
-extentsOf (c ∷ cs) = extentOf c ∷ extentsOf cs
+-- A list of components as the neighbour rules see it.
+abbrev pub neighboursOf : List Component → List Neighbour
+neighboursOf [] = []
+neighboursOf (c ∷ cs) = neighbourOf c ∷ neighboursOf cs
 
 -- The ids of a list of components.
 abbrev pub idsOf : List Component → List ℕ
 idsOf [] = []
 idsOf (c ∷ cs) = c .id ∷ idsOf cs
 
--- The number of object records that a component is to have: "If init, as many object records as the stripe count follow".
+-- The number of object records by the flag and the stripe count: "If init, as many object records as the stripe count follow".
+abbrev pub countOf : Bool → ℕ → ℕ
+countOf init count = cond init count 0
+
+-- The number of object records that a component is to have.
 abbrev pub recordCount : Component → ℕ
-recordCount c = cond (c .init) (c .«stripe_count») 0
+recordCount c = countOf (c .init) (c .«stripe_count»)
 
 -- The object records of a component, in stripe order: the first places of its array. All rules read them through this.
 abbrev pub recordsOf : Component → List Object
@@ -71,19 +75,15 @@ packObjects os = sets (replicate 16 noObject) 0 os
 unfoldable pub packComponents : List Component → List Component
 packComponents cs = sets (replicate 16 noComponent) 0 cs
 
--- What stands in the unused places of an array of extents.
-abbrev pub noExtent : Extent
-noExtent = record { init = false; extension = false; begin = 0; end = 0 }
+-- What stands in the unused places of an outline.
+abbrev pub noNeighbour : Neighbour
+noNeighbour = record { init = false; extension = false; begin = 0; end = 0 }
 
--- The extents and the ids of at most 16 components, packed into 16 places each.
+-- What the rules beside those of the fields ask of at most 16 components, packed into 16 places.
 abbrev pub outlineOf : List Component → Outline
 outlineOf cs =
-    record { extents = sets (replicate 16 noExtent) 0 (extentsOf cs); ids = sets (replicate 16 0) 0 (idsOf cs) }
-
--- A layout made from its parts.
-abbrev pub fromParts : ℕ → ℕ → List Component → Layout
-fromParts g n cs = record { generation = g; count = n; components = cs }
+    record { neighbours = sets (replicate 16 noNeighbour) 0 (neighboursOf cs); ids = sets (replicate 16 0) 0 (idsOf cs) }
 
 -- The layout of a generation and a list of at most 16 components.
-abbrev pub pack : ℕ → List Component → Layout
-pack g cs = fromParts g (length cs) (packComponents cs)
+abbrev pub packed : ℕ → List Component → Layout
+packed g cs = record { generation = g; count = length cs; components = packComponents cs }

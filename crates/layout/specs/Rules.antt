@@ -7,16 +7,19 @@ use lib.ListN.{length}
 use Rattle.lists.specs.Tests.{every}
 use Rattle.layout.specs.declared.Component.{Component}
 use Rattle.layout.specs.declared.Layout.{Layout}
-use Rattle.layout.specs.Records.{view, extentsOf}
+use Rattle.layout.specs.Records.{view, neighboursOf}
 use Rattle.layout.specs.Fields.{fieldTests}
 use Rattle.layout.specs.Neighbours.{neighboursHold}
 use Rattle.layout.specs.Distinct.{distinctHold}
 
+-- 7 or 8, the lower number whose rule is broken, or 0. `more` says that pages are outstanding.
+abbrev pub laterRuleBroken : Bool → List Component → ℕ
+laterRuleBroken more cs = cond (neighboursHold more (neighboursOf cs)) (cond (distinctHold cs) 0 8) 7
+
 -- 6, 7 or 8, the lowest number whose rule is broken, or 0: "Among its call's numbers each is given exactly if its condition holds
--- and no lower one's does." `more` says that pages are outstanding.
+-- and no lower one's does."
 unfoldable pub ruleBroken : Bool → List Component → ℕ
-ruleBroken more cs =
-    cond (every (fieldTests cs)) (cond (neighboursHold more (extentsOf cs)) (cond (distinctHold cs) 0 8) 7) 6
+ruleBroken more cs = cond (every (fieldTests cs)) (laterRuleBroken more cs) 6
 
 -- "A layout is valid exactly if refusal 1 doesn't apply to it": it has 1 to 16 components, as many as its count says, and they
 -- keep the rules with no pages outstanding.

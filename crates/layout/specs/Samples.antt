@@ -9,7 +9,7 @@ use lib.ListN.{length}
 use Rattle.layout.specs.declared.Object.{Object}
 use Rattle.layout.specs.declared.Component.{Component}
 use Rattle.layout.specs.Records.{packObjects}
-use Rattle.layout.specs.Fields.{isUnit, extensionOk, stripedOk, kindOk, isMinusOne, isTarget, firstTargetOk, fieldsOk}
+use Rattle.layout.specs.Fields.{nonzeroMultiple, extensionOk, stripedOk, kindOk, isMinusOne, isTarget, firstTargetOk, fieldsOk}
 use Rattle.layout.specs.Neighbours.{neighboursHold}
 use Rattle.layout.specs.Distinct.{sameObject, distinctHold}
 use Rattle.layout.specs.Rules.{ruleBroken}
@@ -22,7 +22,7 @@ eof = 18446744073709551615
 abbrev pub mega : ℕ → ℕ
 mega n = n * 1048576
 
--- An init component: its id, extent, stripe size and object records.
+-- An init component: its id, begin and end, stripe size, first target and object records.
 unfoldable pub initOf : ℕ → ℕ → ℕ → ℕ → ℕ → List Object → Component
 initOf id begin end size first os =
     record {
@@ -38,7 +38,7 @@ initOf id begin end size first os =
       objects = packObjects os;
     }
 
--- A bare component: its id, extent, stripe count and stripe size.
+-- A bare component: its id, begin and end, stripe count and stripe size.
 unfoldable pub bareOf : ℕ → ℕ → ℕ → ℕ → ℕ → Component
 bareOf id begin end count size =
     record {
@@ -54,7 +54,7 @@ bareOf id begin end count size =
       objects = packObjects [];
     }
 
--- An extension: its id, extent and extension size.
+-- An extension: its id, begin and end, and extension size.
 unfoldable pub extensionOf : ℕ → ℕ → ℕ → ℕ → Component
 extensionOf id begin end size =
     record {
@@ -85,7 +85,7 @@ layoutA =
 -- "Layout B: the listing above, component 1 on target 0."
 unfoldable pub layoutB : List Component
 layoutB =
-    initOf 1 0 (mega 16) (mega 1) 0 (onTarget 0 20 ∷ [])
+    initOf 1 0 (mega 16) (mega 1) 0 (onTarget 0 10 ∷ [])
     ∷ extensionOf 2 (mega 16) (mega 100) (mega 16)
     ∷ bareOf 3 (mega 100) (mega 100) 1 (mega 1)
     ∷ extensionOf 4 (mega 100) eof (mega 24)
@@ -97,7 +97,7 @@ onePage = initOf 1 0 65536 65536 2 (onTarget 2 7 ∷ []) ∷ []
 
 -- The number of the rule that a list which is written out breaks, with no pages outstanding.
 unfoldable pub asked : List Component → ℕ
-unfolding ruleBroken fieldsOk kindOk extensionOk stripedOk isUnit firstTargetOk isTarget isMinusOne neighboursHold distinctHold sameObject packObjects initOf bareOf extensionOf layoutA layoutB onePage
+unfolding ruleBroken fieldsOk kindOk extensionOk stripedOk nonzeroMultiple firstTargetOk isTarget isMinusOne neighboursHold distinctHold sameObject packObjects initOf bareOf extensionOf layoutA layoutB onePage
 asked cs = ruleBroken false cs
 
 -- The three break none.

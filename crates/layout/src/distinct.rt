@@ -16,7 +16,7 @@ ghost use Rattle.layout.specs.Rows.{targetsOf, numbersOf, objectOf, name
 ghost use Rattle.layout.specs.Distinct.{sameObject, objectTests};
 ghost use Rattle.layout.specs.Known.{Passed};
 
-// The position of the first of n ids that stands before it, or n. The tests of the first `from` are known to pass.
+// The position of the first of n ids that equals one before it, or n. The tests of the first `from` are known to pass.
 pub fn id_fault(ids: [u16; 16], n: usize, from: usize) -> usize
     requires { ⌜ Passed from n (fresh eqb (take n ids)) ⌝ }
     ensures { λ r. ⌜ r ≡ firstFailed (fresh eqb (take n ids)) ⌝ }

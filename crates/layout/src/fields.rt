@@ -3,19 +3,19 @@ use crate::Component;
 use crate::Layout;
 use crate::Object;
 ghost use mathlib.Core.Path.{_≡_};
-ghost use mathlib.Core.Bool.{true, cond};
+ghost use mathlib.Core.Bool.{true};
 ghost use Prim.Native.Nat.{_≤_};
 ghost use lib.Dec.{eqb};
 ghost use lib.ListN.{length, take};
 ghost use Rattle.lists.specs.Tests.{every, each, firstFailed};
-ghost use Rattle.layout.specs.Records.{recordsOf, view};
-ghost use Rattle.layout.specs.Fields.{isUnit, extensionOk, stripedOk, kindOk, isMinusOne, isTarget};
+ghost use Rattle.layout.specs.Records.{countOf, recordsOf, view};
+ghost use Rattle.layout.specs.Fields.{nonzeroMultiple, extensionOk, stripedOk, kindOk, isMinusOne, isTarget};
 ghost use Rattle.layout.specs.Fields.{firstTargetOk, targetOk, fieldsOk, fieldTests};
 ghost use Rattle.layout.specs.Known.{Passed, Kept};
 
 // Is n a nonzero multiple of 65,536?
-pub fn is_unit(n: u64) -> bool
-    ensures { λ r. ⌜ r ≡ isUnit n ⌝ }
+pub fn nonzero_multiple(n: u64) -> bool
+    ensures { λ r. ⌜ r ≡ nonzeroMultiple n ⌝ }
 {
     (0 < n) & (n % 65536 == 0)
 }
@@ -24,17 +24,21 @@ pub fn is_unit(n: u64) -> bool
 pub fn extension_ok(begin: u64, end: u64, count: u16, size: u32, extension: u64) -> bool
     ensures { λ r. ⌜ r ≡ extensionOk begin end count size extension ⌝ }
 {
-    (begin < end) & (count == 0) & (size == 0) & is_unit(extension)
+    (begin < end) & (count == 0) & (size == 0) & nonzero_multiple(extension)
 }
 
 // Are these the extent, the stripe fields and the extension size of a component that is not an extension?
 pub fn striped_ok(init: bool, begin: u64, end: u64, count: u16, size: u32, extension: u64) -> bool
     ensures { λ r. ⌜ r ≡ stripedOk init begin end count size extension ⌝ }
 {
-    (1 <= count) & (count <= 16) & is_unit(size as u64) & (extension == 0) & (!init | (begin < end))
+    (1 <= count)
+        & (count <= 16)
+        & nonzero_multiple(size as u64)
+        & (extension == 0)
+        & (!init | (begin < end))
 }
 
-// The same for either kind of component.
+// Are these the extent, the stripe fields and the extension size of a component of either kind?
 pub fn kind_ok(
     is_extension: bool,
     init: bool,
@@ -143,7 +147,7 @@ pub fn fields_ok(c: Component) -> bool
 
 // Are there n object records, as the flag and the stripe count say?
 pub fn has_count(init: bool, stripe_count: u16, n: usize) -> bool
-    ensures { λ r. ⌜ r ≡ eqb n (cond init «stripe_count» 0) ⌝ }
+    ensures { λ r. ⌜ r ≡ eqb n (countOf init «stripe_count») ⌝ }
 {
     if init {
         return n == stripe_count as usize;

@@ -1,11 +1,10 @@
 // The records of a layout and the rules that they keep.
 ghost use mathlib.Core.Path.{_≡_};
-ghost use mathlib.Core.Bool.{true, cond};
+ghost use mathlib.Core.Bool.{true};
 ghost use Prim.Native.Nat.{_≤_};
-ghost use Rattle.layout.specs.Records.{fromParts, view, extentsOf, outlineOf};
-ghost use Rattle.layout.specs.Neighbours.{neighboursHold};
-ghost use Rattle.layout.specs.Distinct.{distinctHold};
-ghost use Rattle.layout.specs.Rules.{ruleBroken, valid};
+ghost use lib.ListN.{take};
+ghost use Rattle.layout.specs.Records.{view, outlineOf, noComponent, packed};
+ghost use Rattle.layout.specs.Rules.{laterRuleBroken, ruleBroken, valid};
 ghost use Rattle.layout.specs.Known.{Kept};
 ghost use Rattle.layout.specs.Holder.{holderOf};
 
@@ -34,8 +33,8 @@ pub struct Component {
     pub objects: [Object; 16],
 }
 
-// What the neighbour rules ask of a component: its extent [begin, end) and its flags.
-pub struct Extent {
+// A component as the neighbour rules see it: its extent [begin, end) and its flags.
+pub struct Neighbour {
     pub init: bool,
     pub extension: bool,
     pub begin: u64,
@@ -49,42 +48,76 @@ pub struct Layout {
     pub components: [Component; 16],
 }
 
-const NO_EXTENT: Extent = Extent {
+const NO_OBJECT: Object = Object {
+    target: 0,
+    number: 0,
+};
+
+const NO_COMPONENT: Component = Component {
+    init: false,
+    extension: false,
+    id: 0,
+    stripe_count: 0,
+    stripe_size: 0,
+    first_target: 0,
+    begin: 0,
+    end: 0,
+    extension_size: 0,
+    objects: [NO_OBJECT; 16],
+};
+
+const NO_NEIGHBOUR: Neighbour = Neighbour {
     init: false,
     extension: false,
     begin: 0,
     end: 0,
 };
 
-// A layout from its parts.
-pub fn layout_of_parts(generation: u32, count: usize, components: [Component; 16]) -> Layout
-    ensures { λ r. ⌜ r ≡ fromParts generation count components ⌝ }
+// What stands in the unused places of a layout.
+pub fn no_component() -> Component
+    ensures { λ r. ⌜ r ≡ noComponent ⌝ }
 {
+    NO_COMPONENT
+}
+
+// The layout of a generation and the first `count` of the components; the rest of its places blank. Every layout that is
+// given back is made here.
+pub fn pack(generation: u32, count: usize, components: [Component; 16]) -> Layout
+    requires { ⌜ count ≤ 16 ⌝ }
+    ensures { λ r. ⌜ r ≡ packed generation (take count components) ⌝ }
+{
+    let mut places = [NO_COMPONENT; 16];
+    let mut i: usize = 0;
+    while i < count {
+        places[i] = components[i];
+        i += 1;
+    }
     Layout {
         generation: generation,
         count: count,
-        components: components,
+        components: places,
     }
 }
 
-// What the rules ask of components beside their fields: the extents and the ids, in the first places.
+// What the rules beside those of the fields ask of components, in the first places: what the neighbour rules see, and
+// the ids.
 pub struct Outline {
-    pub extents: [Extent; 16],
+    pub neighbours: [Neighbour; 16],
     pub ids: [u16; 16],
 }
 
-// The extents and the ids of a layout's components; the rest of the places blank.
+// The outline of a layout; the rest of its places blank.
 pub fn outline_of(l: Layout) -> Outline
     requires { ⌜ l .count ≤ 16 ⌝ }
     ensures { λ r. ⌜ r ≡ outlineOf (view l) ⌝ }
 {
     let n = l.count;
-    let mut extents = [NO_EXTENT; 16];
+    let mut neighbours = [NO_NEIGHBOUR; 16];
     let mut ids = [0u16; 16];
     let mut i: usize = 0;
     while i < n {
         let c = l.components[i];
-        extents[i] = Extent {
+        neighbours[i] = Neighbour {
             init: c.init,
             extension: c.extension,
             begin: c.begin,
@@ -94,7 +127,7 @@ pub fn outline_of(l: Layout) -> Outline
         i += 1;
     }
     Outline {
-        extents: extents,
+        neighbours: neighbours,
         ids: ids,
     }
 }
@@ -102,12 +135,12 @@ pub fn outline_of(l: Layout) -> Outline
 // The number of the first rule that the components break among those of neighbours and distinctness, 7 or 8, or 0.
 fn later_rule_broken(l: Layout, more: bool, from: usize) -> u8
     requires { ⌜ Kept from l ⌝ }
-    ensures { λ r. ⌜ r ≡ cond (neighboursHold more (extentsOf (view l))) (cond (distinctHold (view l)) 0 8) 7 ⌝ }
+    ensures { λ r. ⌜ r ≡ laterRuleBroken more (view l) ⌝ }
 {
     let n = l.count;
     let outline = outline_of(l);
-    let extents = outline.extents;
-    if !neighbours::neighbours_hold(extents, n, more, from) {
+    let neighbours = outline.neighbours;
+    if !neighbours::neighbours_hold(neighbours, n, more, from) {
         return 7;
     }
     let ids = outline.ids;

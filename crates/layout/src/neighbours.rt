@@ -1,51 +1,50 @@
-// The neighbour rules (refusal 7), in their four parts, asked of the extents of n components. Each part gives the
-// position of its first fault, or n; the tests of the first `from` are known to pass and are not asked again.
-use crate::Extent;
+// The neighbour rules (refusal 7), in their four parts, asked of the first n of a list. Each part gives the position of
+// its first fault, or n; the tests of the first `from` are known to pass and are not asked again.
+use crate::Neighbour;
 ghost use mathlib.Core.Path.{_≡_};
-ghost use mathlib.Core.Bool.{false, not, _||_, Bool·beq};
+ghost use mathlib.Core.Bool.{false};
 ghost use Prim.Native.Nat.{_-_, _≤_};
-ghost use lib.Dec.{eqb};
 ghost use lib.ListN.{take};
 ghost use Rattle.lists.specs.Tests.{firstFailed, after};
 ghost use Rattle.layout.specs.Neighbours.{endOf, mayFollow, beginTests, followTests, emptyTests, lastTests};
-ghost use Rattle.layout.specs.Neighbours.{neighboursHold};
+ghost use Rattle.layout.specs.Neighbours.{mayStand, emptyBefore, neighboursHold};
 ghost use Rattle.layout.specs.Known.{Passed, Joined};
 
 // Where the component before position i ends: 0 for the first.
-pub fn end_before(extents: [Extent; 16], i: usize) -> u64
+pub fn end_before(list: [Neighbour; 16], i: usize) -> u64
     requires { ⌜ i ≤ 16 ⌝ }
-    ensures { λ r. ⌜ r ≡ after endOf 0 (take i extents) ⌝ }
+    ensures { λ r. ⌜ r ≡ after endOf 0 (take i list) ⌝ }
 {
     if i == 0 {
         return 0;
     }
     let k = i - 1;
-    let c = extents[k];
+    let c = list[k];
     c.end
 }
 
 // May an extension stand at position i: is there a component before it that is not one?
-pub fn may_before(extents: [Extent; 16], i: usize) -> bool
+pub fn may_before(list: [Neighbour; 16], i: usize) -> bool
     requires { ⌜ i ≤ 16 ⌝ }
-    ensures { λ r. ⌜ r ≡ after mayFollow false (take i extents) ⌝ }
+    ensures { λ r. ⌜ r ≡ after mayFollow false (take i list) ⌝ }
 {
     if i == 0 {
         return false;
     }
     let k = i - 1;
-    let c = extents[k];
+    let c = list[k];
     !c.extension
 }
 
 // The first component that does not begin where the one before it ends, the first of all at 0.
-pub fn begin_fault(extents: [Extent; 16], n: usize, from: usize) -> usize
-    requires { ⌜ Passed from n (beginTests (take n extents)) ⌝ }
-    ensures { λ r. ⌜ r ≡ firstFailed (beginTests (take n extents)) ⌝ }
+pub fn begin_fault(list: [Neighbour; 16], n: usize, from: usize) -> usize
+    requires { ⌜ Passed from n (beginTests (take n list)) ⌝ }
+    ensures { λ r. ⌜ r ≡ firstFailed (beginTests (take n list)) ⌝ }
 {
-    let mut at = end_before(extents, from);
+    let mut at = end_before(list, from);
     let mut i = from;
     while i < n {
-        let c = extents[i];
+        let c = list[i];
         if c.begin != at {
             return i;
         }
@@ -56,14 +55,14 @@ pub fn begin_fault(extents: [Extent; 16], n: usize, from: usize) -> usize
 }
 
 // The first extension that does not directly follow a component that is not one.
-pub fn follow_fault(extents: [Extent; 16], n: usize, from: usize) -> usize
-    requires { ⌜ Passed from n (followTests (take n extents)) ⌝ }
-    ensures { λ r. ⌜ r ≡ firstFailed (followTests (take n extents)) ⌝ }
+pub fn follow_fault(list: [Neighbour; 16], n: usize, from: usize) -> usize
+    requires { ⌜ Passed from n (followTests (take n list)) ⌝ }
+    ensures { λ r. ⌜ r ≡ firstFailed (followTests (take n list)) ⌝ }
 {
-    let mut may = may_before(extents, from);
+    let mut may = may_before(list, from);
     let mut i = from;
     while i < n {
-        let c = extents[i];
+        let c = list[i];
         if !follows_ok(may, c.extension) {
             return i;
         }
@@ -75,14 +74,14 @@ pub fn follow_fault(extents: [Extent; 16], n: usize, from: usize) -> usize
 
 // May the component stand here: is it no extension, or may one follow?
 pub fn follows_ok(may: bool, extension: bool) -> bool
-    ensures { λ r. ⌜ r ≡ (not extension || may) ⌝ }
+    ensures { λ r. ⌜ r ≡ mayStand may extension ⌝ }
 {
     !extension | may
 }
 
 // Is the component init, or empty exactly if an extension follows?
 pub fn empty_ok(init: bool, begin: u64, end: u64, extension_follows: bool) -> bool
-    ensures { λ r. ⌜ r ≡ (init || Bool·beq (eqb begin end) «extension_follows») ⌝ }
+    ensures { λ r. ⌜ r ≡ emptyBefore init begin end «extension_follows» ⌝ }
 {
     let empty = begin == end;
     init | (empty == extension_follows)
@@ -90,15 +89,15 @@ pub fn empty_ok(init: bool, begin: u64, end: u64, extension_follows: bool) -> bo
 
 // The first component, but for the last, that is not init and is empty where no extension follows, or not empty where
 // one does.
-pub fn empty_fault(extents: [Extent; 16], n: usize, from: usize) -> usize
-    requires { ⌜ Passed from n (emptyTests (take n extents)) ⌝ }
-    ensures { λ r. ⌜ r ≡ firstFailed (emptyTests (take n extents)) ⌝ }
+pub fn empty_fault(list: [Neighbour; 16], n: usize, from: usize) -> usize
+    requires { ⌜ Passed from n (emptyTests (take n list)) ⌝ }
+    ensures { λ r. ⌜ r ≡ firstFailed (emptyTests (take n list)) ⌝ }
 {
     let mut i = from;
     while i + 1 < n {
         let next = i + 1;
-        let c = extents[i];
-        let d = extents[next];
+        let c = list[i];
+        let d = list[next];
         if !empty_ok(c.init, c.begin, c.end, d.extension) {
             return i;
         }
@@ -108,9 +107,9 @@ pub fn empty_fault(extents: [Extent; 16], n: usize, from: usize) -> usize
 }
 
 // The last component where it is empty with no pages outstanding.
-pub fn last_fault(extents: [Extent; 16], n: usize, more: bool) -> usize
+pub fn last_fault(list: [Neighbour; 16], n: usize, more: bool) -> usize
     requires { ⌜ n ≤ 16 ⌝ }
-    ensures { λ r. ⌜ r ≡ firstFailed (lastTests more (take n extents)) ⌝ }
+    ensures { λ r. ⌜ r ≡ firstFailed (lastTests more (take n list)) ⌝ }
 {
     if n == 0 {
         return 0;
@@ -119,7 +118,7 @@ pub fn last_fault(extents: [Extent; 16], n: usize, more: bool) -> usize
         return n;
     }
     let k = n - 1;
-    let c = extents[k];
+    let c = list[k];
     if c.begin == c.end {
         return k;
     }
@@ -137,13 +136,13 @@ fn one_less(k: usize) -> usize
 }
 
 // Do the neighbour rules hold, with pages outstanding or not?
-pub fn neighbours_hold(extents: [Extent; 16], n: usize, more: bool, from: usize) -> bool
-    requires { ⌜ Joined from n (take n extents) ⌝ }
-    ensures { λ r. ⌜ r ≡ neighboursHold more (take n extents) ⌝ }
+pub fn neighbours_hold(list: [Neighbour; 16], n: usize, more: bool, from: usize) -> bool
+    requires { ⌜ Joined from n (take n list) ⌝ }
+    ensures { λ r. ⌜ r ≡ neighboursHold more (take n list) ⌝ }
 {
-    let begins = begin_fault(extents, n, from) == n;
-    let follows = follow_fault(extents, n, from) == n;
-    let empties = empty_fault(extents, n, one_less(from)) == n;
-    let last = last_fault(extents, n, more) == n;
+    let begins = begin_fault(list, n, from) == n;
+    let follows = follow_fault(list, n, from) == n;
+    let empties = empty_fault(list, n, one_less(from)) == n;
+    let last = last_fault(list, n, more) == n;
     begins & follows & empties & last
 }

@@ -59,7 +59,11 @@ fn single(end: u64, size: u32, first_target: i32, target: u32, number: u64) -> C
 
 // A layout of one component. The unused places hold copies of it, which mean nothing.
 pub(crate) fn alone(generation: u32, c: Component) -> Layout {
-    layout::layout_of_parts(generation, 1, [c; 16])
+    Layout {
+        generation: generation,
+        count: 1,
+        components: [c; 16],
+    }
 }
 
 // Component 2 of layout A: three stripes of 1M on targets 1, 2 and 3.
@@ -129,5 +133,9 @@ pub(crate) fn full() -> Layout {
         components[i] = full_component(i);
         i += 1;
     }
-    layout::layout_of_parts(1, 16, components)
+    Layout {
+        generation: 1,
+        count: 16,
+        components: components,
+    }
 }

@@ -4,9 +4,12 @@ use layout::Layout;
 
 mod distinct;
 mod fields;
+mod holders;
 mod kinds;
+mod known;
 mod made;
 mod neighbours;
+mod outstanding;
 mod report;
 mod targets;
 mod validity;
@@ -25,19 +28,27 @@ fn refusal_6(n: u64, a: Layout, b: Layout) -> u64 {
     targets::all(n2, a, b)
 }
 
-// Refusals 7 and 8, and validity.
-fn later(n: u64, a: Layout, b: Layout, page: Layout) -> u64 {
-    let full = made::full();
+// Refusals 7 and 8.
+fn refusals_7_and_8(n: u64, a: Layout, b: Layout, page: Layout, full: Layout) -> u64 {
     let n1 = neighbours::all(n, a, b, page);
     let n2 = distinct::all(n1, a, b, full);
-    validity::all(n2, a, b, full)
+    outstanding::all(n2, a, b)
+}
+
+// Validity, checks that start later, and the component of a byte.
+fn whole(n: u64, a: Layout, b: Layout, full: Layout) -> u64 {
+    let n1 = validity::all(n, a, b, full);
+    let n2 = known::all(n1, a, b, full);
+    holders::all(n2, a, b)
 }
 
 fn main() {
     let a = made::layout_a();
     let b = made::layout_b();
     let page = made::one_page();
+    let full = made::full();
     let n1 = good(0, a, b, page);
     let n2 = refusal_6(n1, a, b);
-    report::total(later(n2, a, b, page));
+    let n3 = refusals_7_and_8(n2, a, b, page, full);
+    report::total(whole(n3, a, b, full));
 }

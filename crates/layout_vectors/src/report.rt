@@ -1,6 +1,7 @@
 // A line for each case, and their count.
 use layout::Component;
 use layout::Layout;
+ghost use mathlib.Core.Path.{_≡_};
 ghost use Prim.Native.Nat.{_<_};
 
 // The number of the first rule that the layout breaks, or 0. More than 16 components is refusal 5.
@@ -11,14 +12,18 @@ fn number(l: Layout, more: bool) -> u8 {
     layout::rule_broken(l, more)
 }
 
-// Prints the number that the layout gets; `more` says that pages are outstanding. Gives one more than n.
-pub(crate) fn numbered(n: u64, name: &[u8], l: Layout, more: bool) -> u64 {
-    let r = number(l, more);
+// Prints a number under a name. Gives one more than n.
+pub(crate) fn valued(n: u64, name: &[u8], value: u64) -> u64 {
     io::write_all(1, name);
     io::write_all(1, b": ");
-    io::print_decimal(1, r as u64);
+    io::print_decimal(1, value);
     io::write_all(1, b"\n");
     std::num::wrapping_add_u64(n, 1)
+}
+
+// Prints the number that the layout gets; `more` says that pages are outstanding. Gives one more than n.
+pub(crate) fn numbered(n: u64, name: &[u8], l: Layout, more: bool) -> u64 {
+    valued(n, name, number(l, more) as u64)
 }
 
 // The words for validity.
@@ -53,7 +58,9 @@ pub(crate) fn with(l: Layout, i: usize, c: Component) -> Layout
 }
 
 // The layout with another number of components.
-pub(crate) fn with_count(l: Layout, count: usize) -> Layout {
+pub(crate) fn with_count(l: Layout, count: usize) -> Layout
+    ensures { λ r. ⌜ (r .count ≡ count) × (r .components ≡ l .components) ⌝ }
+{
     let mut r = l;
     r.count = count;
     r

@@ -47,10 +47,6 @@ module _ {A : Type 0} (same : A → A → Bool) where
   count-append x [] m = omega arith
   count-append x (a ∷ l) m = omega (arith, count-append x l m)
 
-  pub elem-append : (x : A) (l m : List A) → elem x (l ++ m) ≡ (elem x l || elem x m)
-  elem-append x [] m = refl
-  elem-append x (a ∷ l) m = bool-cases (same x a) (λ e. rw e) (λ e. rw e (elem-append x l m))
-
   -- An element that does not stand in a list counts 0 there, and one that does at least 1.
   pub elem-false : (x : A) (l : List A) → elem x l ≡ false → count x l ≡ 0
   elem-false x [] e = refl

@@ -45,12 +45,7 @@ ahead ok (a ∷ l) = ok a l ∷ ahead ok l
 abbrev pub each : {A : Type 0} → (A → Bool) → List A → List Bool
 each {A} ok l = ahead (λ (a : A) (rest : List A). ok a) l
 
--- A test fails exactly if the first that does stands below the number of tests.
-pub some-failed : (ts : List Bool) → firstFailed ts < length ts → every ts ≡ false
-some-failed [] h = absurd (omega arith)
-some-failed (true ∷ ts) h = some-failed ts (omega arith)
-some-failed (false ∷ ts) h = refl
-
+-- Every test passes exactly if the first that fails stands at the number of tests.
 pub none-failed : (ts : List Bool) → length ts ≤ firstFailed ts → every ts ≡ true
 none-failed [] h = refl
 none-failed (true ∷ ts) h = none-failed ts (omega arith)

@@ -1,5 +1,4 @@
 -- The laws of round-robin striping, each once over any stripe size z and stripe count s.
--- Assumes nothing.
 use Prim.Native.Nat.{ℕ, _+_, _-_, _*_, _/_, _%_, _^_, _≤_, _<_}
 use mathlib.Core.Logic.{_↔_}
 use mathlib.Core.Option.{none, some}

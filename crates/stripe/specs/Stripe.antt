@@ -29,8 +29,8 @@ fileByte z s i p = (p / z * s + i) * z + p % z
 unfoldable pub fileByteBelow : ℕ → ℕ → ℕ → ℕ → Option ℕ
 fileByteBelow z s i p = cond (ltb (fileByte z s i p) (2 ^ 64)) (some (fileByte z s i p)) none
 
--- What an answer of `file_byte` says: `At` the file byte that it holds, `Past` that it is not below 2^64. "When an
--- answer is an enum, a definition states this paper's number and values for each of its cases."
+-- What an answer of `file_byte` says, case by case: `At` the file byte that it holds, `Past` that it is not below
+-- 2^64.
 unfoldable pub fileByteSays : FileByte → Option ℕ
 fileByteSays (At o) = some o
 fileByteSays Past = none

@@ -1,4 +1,4 @@
--- `layout::later_rule_broken` meets its contract: the first places of the outline are the extents and the ids of the components.
+-- `layout::later_rule_broken` meets its contract: the first places of the outline are what it was made of: the neighbours and the ids of the components.
 use mathlib.Core.Path.{_≡_, ap, _∙_}
 use mathlib.Core.List.{[]}
 use mathlib.Core.Bool.{_&&_}
@@ -11,10 +11,10 @@ use Rattle.lists.specs.Tests.{firstFailed, length-along, failed-every}
 use Rattle.lists.specs.Counting.{unseen, seenWith}
 use Rattle.lists.specs.Slices.{unmapped}
 use Rattle.layout.specs.declared.Outline.{Outline}
-use Rattle.layout.specs.Records.{view, extentsOf, idsOf}
+use Rattle.layout.specs.Records.{view, neighboursOf, idsOf}
 use Rattle.layout.specs.Neighbours.{neighboursHold}
 use Rattle.layout.specs.Distinct.{idTests, distinctHold}
-use Rattle.layout.specs.RecordLaws.{length-ids, outline-extents, outline-ids}
+use Rattle.layout.specs.RecordLaws.{length-ids, outline-neighbours, outline-ids}
 use Rattle.layout.specs.PrefixLaws.{prefix-begins, prefix-follows, prefix-empties, prefix-ids, prefix-objects}
 use borrow.Author.Needs.{needs}
 use Rattle.layout.proofs.later_rule_broken.Statement.{statement}
@@ -28,11 +28,11 @@ whole s =
     length-take-le (l .count) (l .components) (omega arith)
 
 -- The first places of the outline.
-extents : (c : tie.After-outline-of) → take (c .before .args .l .count) (c .outline-of .result .extents) ≡ extentsOf (view (c .before .args .l))
-extents c =
+neighbours : (c : tie.After-outline-of) → take (c .before .args .l .count) (c .outline-of .result .neighbours) ≡ neighboursOf (view (c .before .args .l))
+neighbours c =
     let l = c .before .args .l in
     let w = whole (c .before) in
-    ap (λ (o : Outline). take (l .count) (o .extents)) (c .outline-of .ensures) ∙ rw w at (outline-extents (view l) (omega arith))
+    ap (λ (o : Outline). take (l .count) (o .neighbours)) (c .outline-of .ensures) ∙ rw w at (outline-neighbours (view l) (omega arith))
 
 ids : (c : tie.After-outline-of) → take (c .before .args .l .count) (c .outline-of .result .ids) ≡ idsOf (view (c .before .args .l))
 ids c =
@@ -44,7 +44,7 @@ neighbours-hold-requires : tie.Need-neighbours-hold-requires
 neighbours-hold-requires c κs =
     let s = c .before .before in
     let cs = view (s .args .l) in
-    rw (extents (c .before))
+    rw (neighbours (c .before))
     record {
       within = s .pre .0;
       few = s .pre .1;
@@ -54,8 +54,8 @@ neighbours-hold-requires c κs =
     }
 
 -- What the call for the neighbours answers.
-linked : (c : tie.After-neighbours-hold) → c .neighbours-hold .result ≡ neighboursHold (c .before .before .before .args .more) (extentsOf (view (c .before .before .before .args .l)))
-linked c = c .neighbours-hold .ensures ∙ rw (extents (c .before .before))
+linked : (c : tie.After-neighbours-hold) → c .neighbours-hold .result ≡ neighboursHold (c .before .before .before .args .more) (neighboursOf (view (c .before .before .before .args .l)))
+linked c = c .neighbours-hold .ensures ∙ rw (neighbours (c .before .before))
 
 returns : tie.Need-returns
 returns c = rw (← linked (c .before), not-true (c .before .neighbours-hold .result) (c .if1 .taken))

@@ -6,20 +6,20 @@ use native.Mathlib.Numerals.{add-one}
 use lib.ListN.{length}
 use lib.Seq.{sets, slice}
 use Rattle.lists.specs.Slices.{unmapped, slice-next, slice-done}
-use Rattle.layout.specs.Records.{extentsOf, idsOf, outlineOf, view}
+use Rattle.layout.specs.Records.{neighboursOf, idsOf, outlineOf, view}
 use Rattle.layout.proofs.Unread.{unread}
 use borrow.Author.Needs.{needs}
 use Rattle.layout.proofs.outline_of.Statement.{statement}
 use Rattle.layout.proofs.outline_of.Tie as tie
 
 abbrev Inv-loop : tie.InvT-loop
-Inv-loop l n extents₀ ids₀ i₀ extents ids i =
+Inv-loop l n neighbours₀ ids₀ i₀ neighbours ids i =
     (i ≤ n)
-    × (sets extents₀ 0 (extentsOf (view l)) ≡ sets extents i (extentsOf (slice i n (l .components))))
+    × (sets neighbours₀ 0 (neighboursOf (view l)) ≡ sets neighbours i (neighboursOf (slice i n (l .components))))
     × (sets ids₀ 0 (idsOf (view l)) ≡ sets ids i (idsOf (slice i n (l .components))))
 
 abbrev μ-loop : tie.MeasureT-loop
-μ-loop l n extents₀ ids₀ i₀ extents ids i = n - i
+μ-loop l n neighbours₀ ids₀ i₀ neighbours ids i = n - i
 
 loop-holds : tie.Need-loop-holds Inv-loop μ-loop
 loop-holds c = (search needs, refl, refl)
@@ -38,9 +38,9 @@ returns c =
     let p = c .before in
     let l = p .before .args .t1 in
     let e = slice-done (l .components) (l .count) (p .loop .i) (c .loop-test .left) in
-    let x : p .loop .extents ≡ outlineOf (view l) .extents = sym (p .loop .inv .1 ∙ rw e) in
+    let x : p .loop .neighbours ≡ outlineOf (view l) .neighbours = sym (p .loop .inv .1 ∙ rw e) in
     let y : p .loop .ids ≡ outlineOf (view l) .ids = sym (p .loop .inv .2 ∙ rw e) in
-    λ i. record { extents = x i; ids = y i }
+    λ i. record { neighbours = x i; ids = y i }
 
 pub outline-of-spec : {M : Type 1} → statement M
 outline-of-spec = tie.close (tie.spec Inv-loop μ-loop loop-holds (λ c. search needs) (λ c. search needs) (λ c. search needs) (λ c. search needs) (λ c. search needs) (λ c. search needs) (λ c. search needs) (λ c. search needs) loop-again returns)

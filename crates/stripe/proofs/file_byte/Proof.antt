@@ -1,5 +1,5 @@
 -- `stripe::file_byte` meets its contract: its two tests are those of the law on when a file byte is below a bound, here
--- 2^64. Past both, no product or sum wraps. Assumes nothing.
+-- 2^64. Past both, no product or sum wraps.
 use Prim.Native.Nat.{_+_, _-_, _*_, _/_, _%_, _^_, _≤_, _<_}
 use mathlib.Core.Logic.{_↔_}
 use mathlib.Core.Path.{sym}

@@ -1,5 +1,5 @@
 -- `stripe::object_byte` meets its contract: what it computes is the object byte, which is at most the file byte and so
--- fits. Assumes nothing.
+-- fits.
 use Prim.Native.Nat.{_+_, _*_, _/_, _%_, _≤_}
 use mathlib.Core.Path.{_≡_}
 use borrow.Author.Needs.{needs}

@@ -1,5 +1,4 @@
 -- `stripe::stripe_of` meets its contract: what it computes is the stripe, which is below the stripe count and so fits.
--- Assumes nothing.
 use Prim.Native.Nat.{_%_, _<_}
 use mathlib.Core.Path.{_≡_}
 use borrow.Author.Needs.{needs}

@@ -1,4 +1,4 @@
--- `stripe::unit_of` meets its contract: the quotient is the unit. Assumes nothing.
+-- `stripe::unit_of` meets its contract: the quotient is the unit.
 use borrow.Author.Needs.{needs}
 use Rattle.stripe.specs.Stripe.{unitOf}
 use Rattle.stripe.proofs.unit_of.Statement.{statement}

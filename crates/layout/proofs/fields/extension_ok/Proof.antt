@@ -6,7 +6,7 @@ use Rattle.layout.proofs.fields.extension_ok.Tie as tie
 
 returns : tie.Need-returns
 unfolding extensionOk
-returns c = rw (c .is-unit .ensures)
+returns c = rw (c .nonzero-multiple .ensures)
 
 pub extension-ok-spec : {M : Type 1} → statement M
 extension-ok-spec = tie.close (tie.spec (λ c κs. search needs) returns)

@@ -6,7 +6,7 @@ use Rattle.layout.proofs.fields.striped_ok.Tie as tie
 
 returns : tie.Need-returns
 unfolding stripedOk
-returns c = rw (c .is-unit .ensures)
+returns c = rw (c .nonzero-multiple .ensures)
 
 pub striped-ok-spec : {M : Type 1} → statement M
 striped-ok-spec = tie.close (tie.spec (λ c κs. search needs) returns)

@@ -7,18 +7,18 @@ use lib.Seq.{slice}
 use borrow.Author.Tests.{eq-eqb, ne-eqb}
 use Rattle.lists.specs.Tests.{firstFailed, along}
 use Rattle.lists.specs.Loops.{along-start, along-pass, along-fail, along-done}
-use Rattle.layout.specs.Records.{noExtent}
+use Rattle.layout.specs.Records.{noNeighbour}
 use Rattle.layout.specs.Neighbours.{beginsAt, endOf, beginTests}
 use borrow.Author.Needs.{needs}
 use Rattle.layout.proofs.neighbours.begin_fault.Statement.{statement}
 use Rattle.layout.proofs.neighbours.begin_fault.Tie as tie
 
 abbrev Inv-loop : tie.InvT-loop
-Inv-loop n from extents at₀ i₀ at i =
-    (i ≤ n) × (firstFailed (beginTests (take n extents)) ≡ i + firstFailed (along beginsAt endOf at (slice i n extents)))
+Inv-loop n from list at₀ i₀ at i =
+    (i ≤ n) × (firstFailed (beginTests (take n list)) ≡ i + firstFailed (along beginsAt endOf at (slice i n list)))
 
 abbrev μ-loop : tie.MeasureT-loop
-μ-loop n from extents at₀ i₀ at i = n - i
+μ-loop n from list at₀ i₀ at i = n - i
 
 loop-holds : tie.Need-loop-holds Inv-loop μ-loop
 loop-holds c =
@@ -31,7 +31,7 @@ returns c =
     let p = c .before .before .before .before in
     let a = p .before .before .args in
     sym (p .loop .inv .1
-    ∙ along-fail (a .t1) (a .n) (p .loop .i) beginsAt endOf (p .loop .at) noExtent (c .before .before .before .loop-test .taken) (omega arith)
+    ∙ along-fail (a .t1) (a .n) (p .loop .i) beginsAt endOf (p .loop .at) noNeighbour (c .before .before .before .loop-test .taken) (omega arith)
     (ne-eqb _ _ (c .if1 .taken)))
 
 loop-again : tie.Need-loop-again Inv-loop μ-loop
@@ -40,7 +40,7 @@ loop-again c =
     let a = p .before .before .args in (
       omega arith,
       p .loop .inv .1
-          ∙ along-pass (a .t1) (a .n) (p .loop .i) beginsAt endOf (p .loop .at) noExtent (c .before .before .before .loop-test .taken) (omega arith)
+          ∙ along-pass (a .t1) (a .n) (p .loop .i) beginsAt endOf (p .loop .at) noNeighbour (c .before .before .before .loop-test .taken) (omega arith)
           (eq-eqb _ _ (c .if1 .left)),
     )
 

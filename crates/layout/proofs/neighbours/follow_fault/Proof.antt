@@ -8,18 +8,18 @@ use lib.Seq.{slice}
 use borrow.Author.Tests.{not-true, not-false}
 use Rattle.lists.specs.Tests.{firstFailed, along}
 use Rattle.lists.specs.Loops.{along-start, along-pass, along-fail, along-done}
-use Rattle.layout.specs.Records.{noExtent}
+use Rattle.layout.specs.Records.{noNeighbour}
 use Rattle.layout.specs.Neighbours.{followsOk, mayFollow, followTests}
 use borrow.Author.Needs.{needs}
 use Rattle.layout.proofs.neighbours.follow_fault.Statement.{statement}
 use Rattle.layout.proofs.neighbours.follow_fault.Tie as tie
 
 abbrev Inv-loop : tie.InvT-loop
-Inv-loop n from extents may₀ i₀ may i =
-    (i ≤ n) × (firstFailed (followTests (take n extents)) ≡ i + firstFailed (along followsOk mayFollow may (slice i n extents)))
+Inv-loop n from list may₀ i₀ may i =
+    (i ≤ n) × (firstFailed (followTests (take n list)) ≡ i + firstFailed (along followsOk mayFollow may (slice i n list)))
 
 abbrev μ-loop : tie.MeasureT-loop
-μ-loop n from extents may₀ i₀ may i = n - i
+μ-loop n from list may₀ i₀ may i = n - i
 
 loop-holds : tie.Need-loop-holds Inv-loop μ-loop
 loop-holds c =
@@ -32,7 +32,7 @@ returns c =
     let p = c .before .before .before .before in
     let a = p .before .before .args in
     sym (p .loop .inv .1
-    ∙ along-fail (a .t1) (a .n) (p .loop .i) followsOk mayFollow (p .loop .may) noExtent (c .before .before .before .loop-test .taken) (omega arith)
+    ∙ along-fail (a .t1) (a .n) (p .loop .i) followsOk mayFollow (p .loop .may) noNeighbour (c .before .before .before .loop-test .taken) (omega arith)
     (sym (c .before .follows-ok .ensures) ∙ not-true (c .before .follows-ok .result) (c .if1 .taken)))
 
 loop-again : tie.Need-loop-again Inv-loop μ-loop
@@ -41,7 +41,7 @@ loop-again c =
     let a = p .before .before .args in (
       omega arith,
       p .loop .inv .1
-          ∙ along-pass (a .t1) (a .n) (p .loop .i) followsOk mayFollow (p .loop .may) noExtent (c .before .before .before .before .loop-test .taken) (omega arith)
+          ∙ along-pass (a .t1) (a .n) (p .loop .i) followsOk mayFollow (p .loop .may) noNeighbour (c .before .before .before .before .loop-test .taken) (omega arith)
           (sym (c .before .before .follows-ok .ensures) ∙ not-false (c .before .before .follows-ok .result) (c .before .if1 .left)),
     )
 

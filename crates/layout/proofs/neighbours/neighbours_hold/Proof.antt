@@ -26,8 +26,8 @@ returns : tie.Need-returns
 unfolding neighboursHold
 returns c =
     let a = c .before .before .before .before .before .args in
-    let l = take (a .n) (a .extents) in
-    let w : length l ≡ a .n = length-take-le (a .n) (a .extents) (omega arith) in
+    let l = take (a .n) (a .list) in
+    let w : length l ≡ a .n = length-take-le (a .n) (a .list) (omega arith) in
     let b = c .before .before .before .before .begin-fault in
     let f = c .before .before .before .follow-fault in
     let e = c .before .empty-fault in

@@ -80,8 +80,8 @@ pub fn no_component() -> Component
     NO_COMPONENT
 }
 
-// The layout of a generation and the first `count` of the components; the rest of its places blank. Every layout that is
-// given back is made here.
+// The layout of a generation and the first `count` of the components; the rest of its places blank. Every layout that
+// is given back is made here.
 pub fn pack(generation: u32, count: usize, components: [Component; 16]) -> Layout
     requires { ⌜ count ≤ 16 ⌝ }
     ensures { λ r. ⌜ r ≡ packed generation (take count components) ⌝ }

@@ -15,7 +15,7 @@ beginsAt at c = eqb (c .begin) at
 abbrev pub endOf : ℕ → Neighbour → ℕ
 endOf at c = c .end
 
--- The first part.
+-- The first part, over a list.
 abbrev pub beginTests : List Neighbour → List Bool
 beginTests cs = along beginsAt endOf 0 cs
 
@@ -27,11 +27,11 @@ mayStand may extension = not extension || may
 abbrev pub followsOk : Bool → Neighbour → Bool
 followsOk may c = mayStand may (c .extension)
 
--- Whether an extension may follow.
+-- May an extension follow this component?
 abbrev pub mayFollow : Bool → Neighbour → Bool
 mayFollow may c = not (c .extension)
 
--- The second part.
+-- The second part, over a list.
 abbrev pub followTests : List Neighbour → List Bool
 followTests cs = along followsOk mayFollow false cs
 
@@ -43,12 +43,12 @@ isEmpty c = eqb (c .begin) (c .end)
 abbrev pub emptyBefore : Bool → ℕ → ℕ → Bool → Bool
 emptyBefore init begin end extensionFollows = init || Bool·beq (eqb begin end) extensionFollows
 
--- "this is asked once its follower is gathered."
+-- The same of a component and those behind it: "this is asked once its follower is gathered."
 abbrev pub emptyOk : Neighbour → List Neighbour → Bool
 emptyOk c [] = true
 emptyOk c (d ∷ cs) = emptyBefore (c .init) (c .begin) (c .end) (d .extension)
 
--- The third part.
+-- The third part, over a list.
 abbrev pub emptyTests : List Neighbour → List Bool
 emptyTests cs = ahead emptyOk cs
 
@@ -57,7 +57,7 @@ abbrev pub lastOk : Bool → Neighbour → List Neighbour → Bool
 lastOk more c [] = more || not (isEmpty c)
 lastOk more c (d ∷ cs) = true
 
--- The fourth part.
+-- The fourth part, over a list.
 abbrev pub lastTests : Bool → List Neighbour → List Bool
 lastTests more cs = ahead (lastOk more) cs
 

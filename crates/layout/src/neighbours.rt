@@ -23,7 +23,7 @@ pub fn end_before(list: [Neighbour; 16], i: usize) -> u64
     c.end
 }
 
-// May an extension stand at position i: is there a component before it that is not one?
+// May an extension stand at position i: is there a component directly before it, and is that not an extension?
 pub fn may_before(list: [Neighbour; 16], i: usize) -> bool
     requires { ⌜ i ≤ 16 ⌝ }
     ensures { λ r. ⌜ r ≡ after mayFollow false (take i list) ⌝ }

@@ -32,14 +32,14 @@ suc-cond true n = refl
 suc-cond false n = refl
 
 last-append : (more : Bool) (xs : List Neighbour) (c : Neighbour)
-    → firstFailed (lastTests more (xs ++ (c ∷ []))) ≡ cond (more || not (isEmpty c)) (suc (length xs)) (length xs)
+    → firstFailed (lastTests more (xs ++ (c ∷ []))) ≡ cond (more || not (isEmpty (c .begin) (c .end))) (suc (length xs)) (length xs)
 last-append more [] c = refl
 last-append more (x ∷ xs) c =
-    rw (not-last more x c xs) (ap suc (last-append more xs c) ∙ suc-cond (more || not (isEmpty c)) (length xs))
+    rw (not-last more x c xs) (ap suc (last-append more xs c) ∙ suc-cond (more || not (isEmpty (c .begin) (c .end))) (length xs))
 
 -- Of the tests of the last component, only the last can fail.
 pub last-test : (more : Bool) (l : List Neighbour) (n : ℕ) (d : Neighbour) → 0 < n → n ≤ length l
-    → firstFailed (lastTests more (take n l)) ≡ cond (more || not (isEmpty (getD l (n - 1) d))) n (n - 1)
+    → firstFailed (lastTests more (take n l)) ≡ cond (more || not (isEmpty (getD l (n - 1) d .begin) (getD l (n - 1) d .end))) n (n - 1)
 last-test more l n d h k =
     let e : n ≡ n - 1 + 1 = omega arith in
     let s : suc (n - 1) ≡ n = omega arith in

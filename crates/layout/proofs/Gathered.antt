@@ -7,7 +7,8 @@ use lib.ListN.{length, take, take-append-drop, length-append}
 use lib.Seq.{sets, slice, take-take}
 use Rattle.layout.specs.declared.Component.{Component}
 use Rattle.layout.specs.Records.{recordsIn}
-use Rattle.layout.specs.Rows.{targetsOf, numbersOf, named, sets-targets, sets-numbers, rows-back}
+use Rattle.layout.specs.Rows.{targetOf, numberOf, targetsOf, numbersOf, named, rows-back}
+use Rattle.lists.specs.Slices.{sets-map}
 use Rattle.layout.specs.PrefixLaws.{recordsIn-append}
 
 -- The object records of the first n components: those of the first k, and those of the rest.
@@ -31,6 +32,6 @@ module _ (cs : List Component) (k n known all : ℕ) (h : k ≤ n)
       let b = recordsIn (slice k n cs) in
       let e = records-split cs k n h in
       let g : all ≡ length (a ++ b) = gathered-length ∙ ap length e in
-      let p : ts'' ≡ sets ts 0 (targetsOf (a ++ b)) = t' ∙ rw (t, one) (sym (sets-targets ts 0 a b)) in
-      let q : ns'' ≡ sets ns 0 (numbersOf (a ++ b)) = u' ∙ rw (u, one) (sym (sets-numbers ns 0 a b)) in
+      let p : ts'' ≡ sets ts 0 (targetsOf (a ++ b)) = t' ∙ rw (t, one) (sym (sets-map targetOf ts 0 a b)) in
+      let q : ns'' ≡ sets ns 0 (numbersOf (a ++ b)) = u' ∙ rw (u, one) (sym (sets-map numberOf ns 0 a b)) in
       rw (p, q, g) (rows-back ts ns (a ++ b) (omega arith) (omega arith)) ∙ sym e

@@ -254,8 +254,8 @@ facts-fields (c ∷ cs) f = true-both (facts-kind c (f .0) (f .1)) (facts-fields
 -- The third and the fourth part of the neighbour rule for one component and what follows it, both ways.
 follower-facts : (more : Bool) (c : Component) (cs : List Component) → emptyOk (neighbourOf c) (neighboursOf cs) ≡ true → lastOk more (neighbourOf c) (neighboursOf cs) ≡ true
     → Follower more c cs
-follower-facts more c [] e l = λ m. not-true (isEmpty (neighbourOf c)) (rw m at l)
-follower-facts more c (d ∷ cs) e l = λ i. beq-true (isEmpty (neighbourOf c)) (d .extension) (rw i at e)
+follower-facts more c [] e l = λ m. not-true (isEmpty (c .begin) (c .end)) (rw m at l)
+follower-facts more c (d ∷ cs) e l = λ i. beq-true (isEmpty (c .begin) (c .end)) (d .extension) (rw i at e)
 
 facts-empty : (more : Bool) (c : Component) (cs : List Component) → Follower more c cs → emptyOk (neighbourOf c) (neighboursOf cs) ≡ true
 facts-empty more c [] f = refl
@@ -377,6 +377,6 @@ startsExtension (c ∷ cs) = c .extension
 
 -- With no pages outstanding, a component that is not init is empty exactly if an extension directly follows.
 pub follower-empty : (c : Component) (cs : List Component) → Follower false c cs → c .init ≡ false
-    → isEmpty (neighbourOf c) ≡ startsExtension cs
+    → isEmpty (c .begin) (c .end) ≡ startsExtension cs
 follower-empty c [] f i = f refl
 follower-empty c (d ∷ cs) f i = f i

@@ -11,7 +11,7 @@ use Rattle.lists.specs.Counting.{count}
 use Rattle.layout.specs.declared.Object.{Object}
 use Rattle.layout.specs.declared.Component.{Component}
 use Rattle.layout.specs.declared.Layout.{Layout}
-use Rattle.layout.specs.Records.{noObject, neighbourOf, idsOf, recordsOf, recordsIn, view}
+use Rattle.layout.specs.Records.{noObject, idsOf, recordsOf, recordsIn, view}
 use Rattle.layout.specs.Neighbours.{isEmpty}
 use Rattle.layout.specs.Distinct.{sameObject}
 
@@ -69,8 +69,8 @@ Fields (c ∷ cs) = (1 ≤ c .id) × Kind c × Fields cs
 -- The third and the fourth part of the neighbour rule, of a component and those that follow it. With a follower: if it is not
 -- init, it is empty exactly if the follower is an extension. With none: if no pages are outstanding, it is not empty.
 abbrev pub Follower : Bool → Component → List Component → Type 0
-Follower more c [] = more ≡ false → isEmpty (neighbourOf c) ≡ false
-Follower more c (d ∷ cs) = c .init ≡ false → isEmpty (neighbourOf c) ≡ d .extension
+Follower more c [] = more ≡ false → isEmpty (c .begin) (c .end) ≡ false
+Follower more c (d ∷ cs) = c .init ≡ false → isEmpty (c .begin) (c .end) ≡ d .extension
 
 -- Refusal 7 does not apply to the list, where the component before it ends at `at`, and `may` says that an extension may stand
 -- first.

@@ -36,12 +36,12 @@ abbrev pub followTests : List Neighbour → List Bool
 followTests cs = along followsOk mayFollow false cs
 
 -- "empty (begin = end)"
-abbrev pub isEmpty : Neighbour → Bool
-isEmpty c = eqb (c .begin) (c .end)
+abbrev pub isEmpty : ℕ → ℕ → Bool
+isEmpty begin end = eqb begin end
 
 -- "A component that is not init is empty (begin = end) exactly if an extension directly follows".
 abbrev pub emptyBefore : Bool → ℕ → ℕ → Bool → Bool
-emptyBefore init begin end extensionFollows = init || Bool·beq (eqb begin end) extensionFollows
+emptyBefore init begin end extensionFollows = init || Bool·beq (isEmpty begin end) extensionFollows
 
 -- The same of a component and those behind it: "this is asked once its follower is gathered."
 abbrev pub emptyOk : Neighbour → List Neighbour → Bool
@@ -54,7 +54,7 @@ emptyTests cs = ahead emptyOk cs
 
 -- "With no more pages wanted, the last component is not empty." `more` says that pages are outstanding.
 abbrev pub lastOk : Bool → Neighbour → List Neighbour → Bool
-lastOk more c [] = more || not (isEmpty c)
+lastOk more c [] = more || not (isEmpty (c .begin) (c .end))
 lastOk more c (d ∷ cs) = true
 
 -- The fourth part, over a list.

@@ -11,9 +11,10 @@ use lib.Seq.{take-append-add}
 use Rattle.lists.specs.Bools.{clash, both-true}
 use Rattle.lists.specs.Tests.{every, every-take, take-along, take-each, conjunction-at}
 use Rattle.lists.specs.Counting.{unseen, seenWith, count-append}
+use Rattle.lists.specs.Slices.{map-append, take-map}
 use Rattle.layout.specs.declared.Component.{Component}
 use Rattle.layout.specs.declared.Neighbour.{Neighbour}
-use Rattle.layout.specs.Records.{neighboursOf, idsOf, recordsOf, recordsIn}
+use Rattle.layout.specs.Records.{neighbourOf, neighboursOf, idOf, idsOf, recordsOf, recordsIn}
 use Rattle.layout.specs.Fields.{fieldsOk, fieldTests}
 use Rattle.layout.specs.Neighbours.{beginsAt, endOf, beginTests, followsOk, mayFollow, followTests, emptyOk}
 use Rattle.layout.specs.Neighbours.{emptyTests, lastTests, neighboursHold}
@@ -26,23 +27,6 @@ use Rattle.layout.specs.FactLaws.{rules-hold}
 pub recordsIn-append : (xs ys : List Component) → recordsIn (xs ++ ys) ≡ recordsIn xs ++ recordsIn ys
 recordsIn-append [] ys = refl
 recordsIn-append (c ∷ xs) ys = rw (recordsIn-append xs ys) (sym (append-assoc (recordsOf c) (recordsIn xs) (recordsIn ys)))
-
--- The ids of two lists of components, one behind the other.
-pub idsOf-append : (xs ys : List Component) → idsOf (xs ++ ys) ≡ idsOf xs ++ idsOf ys
-idsOf-append [] ys = refl
-idsOf-append (c ∷ xs) ys = rw (idsOf-append xs ys)
-
--- The first components as the neighbour rules see them.
-pub neighboursOf-take : (k : ℕ) (cs : List Component) → neighboursOf (take k cs) ≡ take k (neighboursOf cs)
-neighboursOf-take zero cs = refl
-neighboursOf-take (suc k) [] = refl
-neighboursOf-take (suc k) (c ∷ cs) = rw (neighboursOf-take k cs)
-
--- The ids of the first components are the first ids.
-pub idsOf-take : (k : ℕ) (cs : List Component) → idsOf (take k cs) ≡ take k (idsOf cs)
-idsOf-take zero cs = refl
-idsOf-take (suc k) [] = refl
-idsOf-take (suc k) (c ∷ cs) = rw (idsOf-take k cs)
 
 -- The object records of the first components are the first object records.
 pub recordsIn-take : (k : ℕ) (cs : List Component)
@@ -73,7 +57,7 @@ module _ (more : Bool) where
       record {
         fields = fields-prefix xs ys (k .fields);
         linked = linked-prefix 0 false xs ys (k .linked);
-        ids = λ i. omega (arith, rw (idsOf-append xs ys, count-append) at (k .ids i));
+        ids = λ i. omega (arith, rw (map-append idOf xs ys, count-append) at (k .ids i));
         objects = λ o. omega (arith, rw (recordsIn-append xs ys, count-append) at (k .objects o));
       }
 
@@ -119,19 +103,19 @@ module _ (k : ℕ) (cs : List Component) (e : ruleBroken true (take k cs) ≡ 0)
 
   -- the first k components begin where they should;
   pub prefix-begins : every (take k (beginTests (neighboursOf cs))) ≡ true
-  prefix-begins = ap every (take-along beginsAt endOf k 0 (neighboursOf cs)) ∙ rw (← neighboursOf-take k cs) (parts .0)
+  prefix-begins = ap every (take-along beginsAt endOf k 0 (neighboursOf cs)) ∙ rw (← take-map neighbourOf k cs) (parts .0)
 
   -- each extension among the first k components directly follows a component that is not one;
   pub prefix-follows : every (take k (followTests (neighboursOf cs))) ≡ true
-  prefix-follows = ap every (take-along followsOk mayFollow k false (neighboursOf cs)) ∙ rw (← neighboursOf-take k cs) (parts .1)
+  prefix-follows = ap every (take-along followsOk mayFollow k false (neighboursOf cs)) ∙ rw (← take-map neighbourOf k cs) (parts .1)
 
   -- the first k - 1 components pass the test of emptiness (the k-th is asked only now that its follower is there);
   pub prefix-empties : every (take (k - 1) (emptyTests (neighboursOf cs))) ≡ true
-  prefix-empties = empties-take k (neighboursOf cs) (rw (← neighboursOf-take k cs) (parts .2))
+  prefix-empties = empties-take k (neighboursOf cs) (rw (← take-map neighbourOf k cs) (parts .2))
 
   -- each of the first k ids differs from those before it;
   pub prefix-ids : every (take k (idTests cs)) ≡ true
-  prefix-ids = ap every (take-along (unseen eqb) seenWith k [] (idsOf cs)) ∙ rw (← idsOf-take k cs) (differ .0)
+  prefix-ids = ap every (take-along (unseen eqb) seenWith k [] (idsOf cs)) ∙ rw (← take-map idOf k cs) (differ .0)
 
   -- each object record of the first k components differs from those before it.
   pub prefix-objects : every (take (length (recordsIn (take k cs))) (objectTests cs)) ≡ true

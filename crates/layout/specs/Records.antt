@@ -1,7 +1,7 @@
 -- What the records mean: the components of a layout, the object records of a component, and how a list is packed into the
 -- places of an array. Places past a count mean nothing, and no rule looks at them.
 use Prim.Native.Nat.{ℕ}
-use mathlib.Core.List.{List, [], _∷_, _++_}
+use mathlib.Core.List.{List, [], _∷_, _++_, map}
 use mathlib.Core.Bool.{Bool, false, cond}
 use lib.IntN.{pos}
 use lib.ListN.{length, take, replicate}
@@ -38,13 +38,15 @@ neighbourOf c = record { init = c .init; extension = c .extension; begin = c .be
 
 -- A list of components as the neighbour rules see it.
 abbrev pub neighboursOf : List Component → List Neighbour
-neighboursOf [] = []
-neighboursOf (c ∷ cs) = neighbourOf c ∷ neighboursOf cs
+neighboursOf cs = map neighbourOf cs
+
+-- The id of a component.
+abbrev pub idOf : Component → ℕ
+idOf c = c .id
 
 -- The ids of a list of components.
 abbrev pub idsOf : List Component → List ℕ
-idsOf [] = []
-idsOf (c ∷ cs) = c .id ∷ idsOf cs
+idsOf cs = map idOf cs
 
 -- The number of object records by the flag and the stripe count: "If init, as many object records as the stripe count follow".
 abbrev pub countOf : Bool → ℕ → ℕ

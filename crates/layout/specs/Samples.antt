@@ -9,6 +9,7 @@ use lib.ListN.{length}
 use Rattle.layout.specs.declared.Object.{Object}
 use Rattle.layout.specs.declared.Component.{Component}
 use Rattle.layout.specs.Records.{packObjects}
+use Rattle.layout.specs.Rows.{objectOf}
 use Rattle.layout.specs.Fields.{nonzeroMultiple, extensionOk, stripedOk, kindOk, isMinusOne, isTarget, firstTargetOk, fieldsOk}
 use Rattle.layout.specs.Neighbours.{neighboursHold}
 use Rattle.layout.specs.Distinct.{sameObject, distinctHold}
@@ -70,22 +71,18 @@ extensionOf id begin end size =
       objects = packObjects [];
     }
 
--- The object with this number on this target.
-abbrev pub onTarget : ℕ → ℕ → Object
-onTarget t n = record { target = t; number = n }
-
 -- "Layout A: id 1 [0, 2M) 1 x 1M; id 2 [2M, 16M) 3 x 1M; both init; id 3 [16M, EOF) 4 x 4M, bare."
 unfoldable pub layoutA : List Component
 layoutA =
-    initOf 1 0 (mega 2) (mega 1) 0 (onTarget 0 10 ∷ [])
-    ∷ initOf 2 (mega 2) (mega 16) (mega 1) 1 (onTarget 1 11 ∷ onTarget 2 12 ∷ onTarget 3 13 ∷ [])
+    initOf 1 0 (mega 2) (mega 1) 0 (objectOf 0 10 ∷ [])
+    ∷ initOf 2 (mega 2) (mega 16) (mega 1) 1 (objectOf 1 11 ∷ objectOf 2 12 ∷ objectOf 3 13 ∷ [])
     ∷ bareOf 3 (mega 16) eof 4 (mega 4)
     ∷ []
 
 -- "Layout B: the listing above, component 1 on target 0."
 unfoldable pub layoutB : List Component
 layoutB =
-    initOf 1 0 (mega 16) (mega 1) 0 (onTarget 0 10 ∷ [])
+    initOf 1 0 (mega 16) (mega 1) 0 (objectOf 0 10 ∷ [])
     ∷ extensionOf 2 (mega 16) (mega 100) (mega 16)
     ∷ bareOf 3 (mega 100) (mega 100) 1 (mega 1)
     ∷ extensionOf 4 (mega 100) eof (mega 24)
@@ -93,7 +90,7 @@ layoutB =
 
 -- "generation 5, one component of 64 KiB on target 2, object 7"
 unfoldable pub onePage : List Component
-onePage = initOf 1 0 65536 65536 2 (onTarget 2 7 ∷ []) ∷ []
+onePage = initOf 1 0 65536 65536 2 (objectOf 2 7 ∷ []) ∷ []
 
 -- The number of the rule that a list which is written out breaks, with no pages outstanding.
 unfoldable pub asked : List Component → ℕ

@@ -1,6 +1,6 @@
 -- What a loop over the first n elements of an array asks for: the part from i on is the element at i and the part after it.
-use Prim.Native.Nat.{ℕ, suc, _+_, _≤_, _<_}
-use mathlib.Core.Path.{_≡_, sym, ap, _∙_}
+use Prim.Native.Nat.{ℕ, zero, suc, _+_, _≤_, _<_}
+use mathlib.Core.Path.{_≡_, refl, sym, ap, _∙_}
 use mathlib.Core.List.{List, [], _∷_, _++_, map}
 use native.Mathlib.Omega.{arith}
 use native.Mathlib.Numerals.{add-one}
@@ -39,3 +39,21 @@ sets-next {A} l at j x xs =
 -- A list stored from the first place of a list that is at least as long stands in its first places.
 pub take-sets : {A : Type 0} (l v : List A) → length v ≤ length l → take (length v) (sets l 0 v) ≡ v
 take-sets l v h = rw (sets-eq v l 0 (omega arith)) (take-append-seam v (drop (0 + length v) l))
+
+-- What is taken of each element of a list, as a list of its own: of two lists one behind the other, of the first k elements, and
+-- stored in a run.
+module _ {A B : Type 0} (f : A → B) where
+  pub map-append : (l m : List A) → map f (l ++ m) ≡ map f l ++ map f m
+  map-append [] m = refl
+  map-append (a ∷ l) m = ap (λ (bs : List B). f a ∷ bs) (map-append l m)
+
+  pub take-map : (k : ℕ) (l : List A) → map f (take k l) ≡ take k (map f l)
+  take-map zero l = refl
+  take-map (suc k) [] = refl
+  take-map (suc k) (a ∷ l) = ap (λ (bs : List B). f a ∷ bs) (take-map k l)
+
+  pub sets-map : (s : List B) (p : ℕ) (l m : List A) → sets s p (map f (l ++ m)) ≡ sets (sets s p (map f l)) (p + length l) (map f m)
+  sets-map s p l m = rw (map-append l m, sets-append, length-map l f)
+
+  pub take-sets-map : (s : List B) (l : List A) → length l ≤ length s → take (length l) (sets s 0 (map f l)) ≡ map f l
+  take-sets-map s l h = rw (length-map l f) at (take-sets s (map f l) (rw (length-map l f) h))

@@ -4,17 +4,17 @@ use mathlib.Core.List.{[]}
 use mathlib.Core.Bool.{_&&_}
 use native.Mathlib.Omega.{arith}
 use lib.Dec.{eqb}
-use lib.ListN.{length, take}
+use lib.ListN.{length, take, length-map}
 use lib.Seq.{length-take-le}
 use borrow.Author.Tests.{not-true, not-false}
 use Rattle.lists.specs.Tests.{firstFailed, length-along, failed-every}
 use Rattle.lists.specs.Counting.{unseen, seenWith}
 use Rattle.lists.specs.Slices.{unmapped}
 use Rattle.layout.specs.declared.Outline.{Outline}
-use Rattle.layout.specs.Records.{view, neighboursOf, idsOf}
+use Rattle.layout.specs.Records.{view, neighboursOf, idOf, idsOf}
 use Rattle.layout.specs.Neighbours.{neighboursHold}
 use Rattle.layout.specs.Distinct.{idTests, distinctHold}
-use Rattle.layout.specs.RecordLaws.{length-ids, outline-neighbours, outline-ids}
+use Rattle.layout.specs.RecordLaws.{outline-neighbours, outline-ids}
 use Rattle.layout.specs.PrefixLaws.{prefix-begins, prefix-follows, prefix-empties, prefix-ids, prefix-objects}
 use borrow.Author.Needs.{needs}
 use Rattle.layout.proofs.later_rule_broken.Statement.{statement}
@@ -82,7 +82,7 @@ differ c =
     let cs = view l in
     let e : i .result ≡ firstFailed (idTests cs) = i .ensures ∙ rw (ids (c .before .before .before .before .before .before)) in
     rw (
-      failed-every (idTests cs) (i .result) (l .count) e (length-along (unseen eqb) seenWith [] (idsOf cs) ∙ length-ids cs ∙ whole s),
+      failed-every (idTests cs) (i .result) (l .count) e (length-along (unseen eqb) seenWith [] (idsOf cs) ∙ length-map cs idOf ∙ whole s),
       c .objects-differ .ensures,
     )
 

@@ -4,9 +4,9 @@ use mathlib.Core.Path.{_≡_, sym, _∙_}
 use native.Mathlib.Omega.{arith}
 use lib.ListN.{length, getD, length-append}
 use lib.Seq.{sets, slice}
-use Rattle.lists.specs.Slices.{unmapped, slice-next, slice-done}
+use Rattle.lists.specs.Slices.{unmapped, slice-next, slice-done, sets-map}
 use Rattle.layout.specs.Records.{recordsIn, recordsOf}
-use Rattle.layout.specs.Rows.{targetsOf, numbersOf, sets-targets, sets-numbers}
+use Rattle.layout.specs.Rows.{targetOf, numberOf, targetsOf, numbersOf}
 use Rattle.layout.proofs.Unread.{unread}
 use borrow.Author.Needs.{needs}
 use Rattle.layout.proofs.distinct.put_all.Statement.{statement}
@@ -40,8 +40,8 @@ loop-again c =
       q .kept .1 .1 .0 ∙ p .loop .inv .2,
       q .kept .1 .1 .1 .0 ∙ p .loop .inv .3,
       p .loop .inv .4 ∙ rw e (omega (arith, length-append (recordsOf x) rest, q .ensures .0)),
-      p .loop .inv .5 ∙ rw (e, q .ensures .2, q .ensures .0) (sets-targets (p .loop .targets) (p .loop .p) (recordsOf x) rest),
-      p .loop .inv .6 ∙ rw (e, q .ensures .3, q .ensures .0) (sets-numbers (p .loop .numbers) (p .loop .p) (recordsOf x) rest),
+      p .loop .inv .5 ∙ rw (e, q .ensures .2, q .ensures .0) (sets-map targetOf (p .loop .targets) (p .loop .p) (recordsOf x) rest),
+      p .loop .inv .6 ∙ rw (e, q .ensures .3, q .ensures .0) (sets-map numberOf (p .loop .numbers) (p .loop .p) (recordsOf x) rest),
     )
 
 returns : tie.Need-returns Inv-loop μ-loop

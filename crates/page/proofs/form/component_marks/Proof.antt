@@ -1,0 +1,12 @@
+-- `page::form::component_marks` meets its contract: the two tests are those of the definition.
+use Rattle.page.specs.Form.{componentMarks}
+use borrow.Author.Needs.{needs}
+use Rattle.page.proofs.form.component_marks.Statement.{statement}
+use Rattle.page.proofs.form.component_marks.Tie as tie
+
+returns : tie.Need-returns
+unfolding componentMarks
+returns c = cc
+
+pub component-marks-spec : {M : Type 1} → statement M
+component-marks-spec = tie.close (tie.spec (λ c. search needs) (λ c. search needs) (λ c. search needs) (λ c. search needs) returns)

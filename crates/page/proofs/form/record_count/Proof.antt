@@ -1,0 +1,28 @@
+-- `page::form::record_count` meets its contract: the stripe count where init is set, else 0.
+use Prim.Native.Nat.{_+_}
+use mathlib.Core.Path.{_≡_, refl}
+use mathlib.Core.Bool.{true, false}
+use denote.Ref.{now}
+use Rattle.bytes_le.specs.Numbers.{u16At}
+use Rattle.bytes_le.specs.Flags.{isSet}
+use Rattle.page.specs.Form.{recordsAt}
+use borrow.Author.Needs.{needs}
+use Rattle.page.proofs.form.record_count.Statement.{statement}
+use Rattle.page.proofs.form.record_count.Tie as tie
+
+returns : tie.Need-returns
+unfolding recordsAt
+returns c =
+    let a = c .before .before .before .before .before .args in
+    let t : isSet 0 (u16At (now (a .s)) (a .at + 2)) ≡ true = cc in
+    (rw t (c .u16-at2 .ensures), search needs)
+
+returns-2 : tie.Need-returns-2
+unfolding recordsAt
+returns-2 c =
+    let a = c .before .before .before .before .args in
+    let t : isSet 0 (u16At (now (a .s)) (a .at + 2)) ≡ false = cc in
+    (rw t refl, search needs)
+
+pub record-count-spec : {M : Type 1} → statement M
+record-count-spec = tie.close (tie.spec (λ c. search needs) (λ c. search needs) (λ c. search needs) (λ c. search needs) (λ c. search needs) (λ c. search needs) returns returns-2)

@@ -1,0 +1,271 @@
+-- The laws of a page's form: how many components it has, where they lie, how the form goes with the limit, and what a
+-- walk finds.
+use Prim.Native.Nat.{ℕ, zero, suc, _+_, _*_, _≤_, _<_}
+use mathlib.Core.Path.{_≡_, refl, ap, _∙_}
+use mathlib.Core.List.{List, map}
+use mathlib.Core.Bool.{true, _&&_}
+use native.Mathlib.Omega.{arith}
+use lib.Dec.{eqb, leb}
+use lib.ListN.{length, getD, take, replicate, length-map}
+use lib.Seq.{sets, getD-take}
+use borrow.Author.Tests.{leb-true, eqb-true, le-leb, eq-eqb}
+use Rattle.bytes_le.specs.Numbers.{u16At, u32At}
+use Rattle.bytes_le.specs.Flags.{onlyFirst}
+use Rattle.lists.specs.Bools.{bool-cases, both-true, true-both}
+use Rattle.lists.specs.Slices.{take-sets}
+use Rattle.page.specs.Form.{objectsForm, componentMarks, recordsAt, behind, componentForm, componentsForm}
+use Rattle.page.specs.Form.{placesFrom, endFrom, headForm, counted, pageEnd, formBy, pageForm, walkOf, pageWalk}
+use Rattle.page.specs.Content.{componentAt, componentsOf}
+
+-- There are as many places as components.
+pub length-places : (n : ℕ) (s : List ℕ) (at : ℕ) → length (placesFrom n s at) ≡ n
+length-places zero s at = refl
+length-places (suc n) s at = ap suc (length-places n s (behind s at))
+
+-- A page has as many components as its head counts.
+pub length-components : (s : List ℕ) → length (componentsOf s) ≡ counted s
+unfolding componentsOf
+length-components s = length-map (placesFrom (counted s) s 16) (componentAt s) ∙ length-places (counted s) s 16
+
+-- What the form of a component says: it ends by the limit, it has its mark and flags, and its object records have
+-- their form. And these three make the form.
+pub component-within : (limit : ℕ) (s : List ℕ) (at : ℕ) → componentForm limit s at ≡ true → behind s at ≤ limit
+unfolding componentForm
+component-within limit s at e =
+    let p = both-true (leb (behind s at) limit && componentMarks s at) (objectsForm (recordsAt s at) s (at + 40)) e in
+    leb-true (behind s at) limit (both-true (leb (behind s at) limit) (componentMarks s at) (p .0) .0)
+
+pub component-marked : (limit : ℕ) (s : List ℕ) (at : ℕ) → componentForm limit s at ≡ true → componentMarks s at ≡ true
+unfolding componentForm
+component-marked limit s at e =
+    let p = both-true (leb (behind s at) limit && componentMarks s at) (objectsForm (recordsAt s at) s (at + 40)) e in
+    both-true (leb (behind s at) limit) (componentMarks s at) (p .0) .1
+
+pub component-objects : (limit : ℕ) (s : List ℕ) (at : ℕ) → componentForm limit s at ≡ true
+    → objectsForm (recordsAt s at) s (at + 40) ≡ true
+unfolding componentForm
+component-objects limit s at e =
+    both-true (leb (behind s at) limit && componentMarks s at) (objectsForm (recordsAt s at) s (at + 40)) e .1
+
+pub component-of : (limit : ℕ) (s : List ℕ) (at : ℕ) → behind s at ≤ limit → componentMarks s at ≡ true
+    → objectsForm (recordsAt s at) s (at + 40) ≡ true → componentForm limit s at ≡ true
+unfolding componentForm
+component-of limit s at h e f = true-both (true-both (le-leb (behind s at) limit h) e) f
+
+-- A component that has its form by one limit has it by every limit that it ends by.
+pub component-by : (limit m : ℕ) (s : List ℕ) (at : ℕ) → componentForm limit s at ≡ true → behind s at ≤ m
+    → componentForm m s at ≡ true
+component-by limit m s at e h = component-of m s at h (component-marked limit s at e) (component-objects limit s at e)
+
+-- Of components that have their form, the first has it, and those behind it have it.
+pub components-parts : (n limit : ℕ) (s : List ℕ) (at : ℕ) → componentsForm (suc n) limit s at ≡ true
+    → (componentForm limit s at ≡ true) × (componentsForm n limit s (behind s at) ≡ true)
+components-parts n limit s at e = both-true (componentForm limit s at) (componentsForm n limit s (behind s at)) e
+
+-- Components that have their form end by the limit.
+pub end-within : (n limit : ℕ) (s : List ℕ) (at : ℕ) → at ≤ limit → componentsForm n limit s at ≡ true
+    → endFrom n s at ≤ limit
+end-within zero limit s at h e = h
+end-within (suc n) limit s at h e =
+    let p = components-parts n limit s at e in
+    end-within n limit s (behind s at) (component-within limit s at (p .0)) (p .1)
+
+-- Components take at least 40 bytes each.
+pub end-past : (n : ℕ) (s : List ℕ) (at : ℕ) → at + 40 * n ≤ endFrom n s at
+end-past zero s at = omega arith
+end-past (suc n) s at = omega (arith, end-past n s (behind s at))
+
+-- The component at each place ends by the limit.
+pub place-within : (n limit : ℕ) (s : List ℕ) (at i : ℕ) → componentsForm n limit s at ≡ true → i < n
+    → behind s (getD (placesFrom n s at) i 0) ≤ limit
+place-within zero limit s at i e h = absurd (omega arith)
+place-within (suc n) limit s at zero e h = component-within limit s at (components-parts n limit s at e .0)
+place-within (suc n) limit s at (suc i) e h =
+    place-within n limit s (behind s at) i (components-parts n limit s at e .1) (omega arith)
+
+-- What the form by a limit says: "A page has 16 to 512 bytes", so the limit is at least 16; the head has its form, and
+-- the components that it counts have theirs. And these three make the form.
+pub form-room : (limit : ℕ) (s : List ℕ) → formBy limit s ≡ true → 16 ≤ limit
+unfolding formBy
+form-room limit s e =
+    let p = both-true (leb 16 limit && headForm s) (componentsForm (counted s) limit s 16) e in
+    leb-true 16 limit (both-true (leb 16 limit) (headForm s) (p .0) .0)
+
+pub form-head : (limit : ℕ) (s : List ℕ) → formBy limit s ≡ true → headForm s ≡ true
+unfolding formBy
+form-head limit s e =
+    let p = both-true (leb 16 limit && headForm s) (componentsForm (counted s) limit s 16) e in
+    both-true (leb 16 limit) (headForm s) (p .0) .1
+
+pub form-components : (limit : ℕ) (s : List ℕ) → formBy limit s ≡ true → componentsForm (counted s) limit s 16 ≡ true
+unfolding formBy
+form-components limit s e = both-true (leb 16 limit && headForm s) (componentsForm (counted s) limit s 16) e .1
+
+pub form-of : (limit : ℕ) (s : List ℕ) → 16 ≤ limit → headForm s ≡ true → componentsForm (counted s) limit s 16 ≡ true
+    → formBy limit s ≡ true
+unfolding formBy
+form-of limit s h e f = true-both (true-both (le-leb 16 limit h) e) f
+
+-- A page that has its form by a limit ends by it.
+pub page-within : (limit : ℕ) (s : List ℕ) → formBy limit s ≡ true → pageEnd s ≤ limit
+page-within limit s e = end-within (counted s) limit s 16 (form-room limit s e) (form-components limit s e)
+
+-- "components in the page, at least 1"
+pub some-components : (limit : ℕ) (s : List ℕ) → formBy limit s ≡ true → 1 ≤ counted s
+unfolding headForm
+some-components limit s e =
+    let a = eqb (u16At s 0) 0x4850 && onlyFirst 1 (u16At s 2) in
+    let p = both-true (a && leb 1 (u16At s 6)) (eqb (u32At s 12) 0) (form-head limit s e) in
+    leb-true 1 (u16At s 6) (both-true a (leb 1 (u16At s 6)) (p .0) .1)
+
+-- 512 bytes have room for the head and 12 components.
+pub few-components : (limit : ℕ) (s : List ℕ) → formBy limit s ≡ true → limit ≤ 512 → counted s ≤ 12
+few-components limit s e h = omega (arith, page-within limit s e, end-past (counted s) s 16)
+
+-- Components that have their form by a limit have it by every greater one.
+pub components-grow : (n m limit : ℕ) (s : List ℕ) (at : ℕ) → m ≤ limit → componentsForm n m s at ≡ true
+    → componentsForm n limit s at ≡ true
+components-grow zero m limit s at h e = refl
+components-grow (suc n) m limit s at h e =
+    let p = components-parts n m s at e in
+    let w = component-within m s at (p .0) in
+    true-both (component-by m limit s at (p .0) (omega arith)) (components-grow n m limit s (behind s at) h (p .1))
+
+-- A page that has its form by a limit has it by every greater one.
+pub form-grows : (m limit : ℕ) (s : List ℕ) → m ≤ limit → formBy m s ≡ true → formBy limit s ≡ true
+form-grows m limit s h e =
+    let r = form-room m s e in
+    form-of limit s (omega arith) (form-head m s e)
+    (components-grow (counted s) m limit s 16 h (form-components m s e))
+
+-- Components that have their form have it by every limit that the last of them ends by.
+pub components-shrink : (n limit m : ℕ) (s : List ℕ) (at : ℕ) → componentsForm n limit s at ≡ true → endFrom n s at ≤ m
+    → componentsForm n m s at ≡ true
+components-shrink zero limit m s at e h = refl
+components-shrink (suc n) limit m s at e h =
+    let p = components-parts n limit s at e in
+    let w : behind s at ≤ m = omega (arith, end-past n s (behind s at)) in
+    true-both (component-by limit m s at (p .0) w) (components-shrink n limit m s (behind s at) (p .1) h)
+
+-- A page that has its form has it by every limit that it ends by.
+pub form-shrinks : (limit m : ℕ) (s : List ℕ) → formBy limit s ≡ true → pageEnd s ≤ m → formBy m s ≡ true
+form-shrinks limit m s e h =
+    form-of m s (omega (arith, end-past (counted s) s 16)) (form-head limit s e)
+    (components-shrink (counted s) limit m s 16 (form-components limit s e) h)
+
+-- What the form of a page says: "A page has 16 to 512 bytes", these begin with a head and the records that it counts,
+-- "and nothing after its last record". And these three make a page.
+pub page-short : (s : List ℕ) → pageForm s ≡ true → length s ≤ 512
+unfolding pageForm
+page-short s e =
+    let p = both-true (leb (length s) 512 && formBy (length s) s) (eqb (pageEnd s) (length s)) e in
+    leb-true (length s) 512 (both-true (leb (length s) 512) (formBy (length s) s) (p .0) .0)
+
+pub page-by : (s : List ℕ) → pageForm s ≡ true → formBy (length s) s ≡ true
+unfolding pageForm
+page-by s e =
+    let p = both-true (leb (length s) 512 && formBy (length s) s) (eqb (pageEnd s) (length s)) e in
+    both-true (leb (length s) 512) (formBy (length s) s) (p .0) .1
+
+pub page-ends : (s : List ℕ) → pageForm s ≡ true → pageEnd s ≡ length s
+unfolding pageForm
+page-ends s e =
+    eqb-true (pageEnd s) (length s)
+    (both-true (leb (length s) 512 && formBy (length s) s) (eqb (pageEnd s) (length s)) e .1)
+
+pub page-of : (s : List ℕ) → length s ≤ 512 → formBy (length s) s ≡ true → pageEnd s ≡ length s → pageForm s ≡ true
+unfolding pageForm
+page-of s h e f = true-both (true-both (le-leb (length s) 512 h) e) (eq-eqb (pageEnd s) (length s) f)
+
+-- A walk meets no fault exactly if the page has its form.
+pub walk-ok : (limit : ℕ) (s : List ℕ) → walkOf limit s .ok ≡ formBy limit s
+unfolding walkOf
+walk-ok limit s = bool-cases (formBy limit s) (λ e. rw e) (λ e. rw e)
+
+-- The end that a walk gives is at most the limit, also where the walk met a fault.
+pub walk-by : (limit : ℕ) (s : List ℕ) → walkOf limit s .end ≤ limit
+unfolding walkOf
+walk-by limit s = bool-cases (formBy limit s) (λ e. rw e (page-within limit s e)) (λ e. rw e (omega arith))
+
+-- What a walk that met no fault found.
+module _ (limit : ℕ) (s : List ℕ) (e : walkOf limit s .ok ≡ true) where
+  -- The page has its form.
+  pub walk-form : formBy limit s ≡ true
+  walk-form = rw (walk-ok limit s) at e
+
+  -- Where the page ends.
+  pub walk-end : walkOf limit s .end ≡ pageEnd s
+  unfolding walkOf
+  walk-end = rw walk-form
+
+  -- The places of the components, packed into 16 places.
+  pub walk-places : walkOf limit s .places ≡ sets (replicate 16 0) 0 (placesFrom (counted s) s 16)
+  unfolding walkOf
+  walk-places = rw walk-form
+
+  -- In a page of at most 512 bytes all places of the components are kept, one for each.
+  pub walk-taken : limit ≤ 512 → take (counted s) (walkOf limit s .places) ≡ placesFrom (counted s) s 16
+  walk-taken h =
+      let n = length-places (counted s) s 16 in
+      let few = few-components limit s walk-form h in
+      rw walk-places (rw n at (take-sets (replicate 16 0) (placesFrom (counted s) s 16) (omega arith)))
+
+  -- The components are what stands at the places found.
+  pub walk-components : limit ≤ 512 → map (componentAt s) (take (counted s) (walkOf limit s .places)) ≡ componentsOf s
+  unfolding componentsOf
+  walk-components h = rw (walk-taken h)
+
+  -- The component at each place found ends by the limit.
+  pub walk-within : (i : ℕ) → limit ≤ 512 → i < counted s → behind s (getD (walkOf limit s .places) i 0) ≤ limit
+  walk-within i h k =
+      rw (← getD-take (counted s) (walkOf limit s .places) i 0 k, walk-taken h)
+      (place-within (counted s) limit s 16 i (form-components limit s walk-form) k)
+
+-- A walk over bytes that are to be one page meets no fault exactly if they are one.
+pub page-walk-ok : (s : List ℕ) → pageWalk s .ok ≡ pageForm s
+unfolding pageWalk
+page-walk-ok s = bool-cases (pageForm s)
+    (λ e. rw e (rw (walk-ok (length s) s) (page-by s e)))
+    (λ e. rw e)
+
+-- What a walk over a page that met no fault found.
+module _ (s : List ℕ) (e : pageWalk s .ok ≡ true) where
+  -- The bytes are a page.
+  pub page-walk-page : pageForm s ≡ true
+  page-walk-page = rw (page-walk-ok s) at e
+
+  -- The walk is the one up to the length.
+  pub page-walk-is : pageWalk s ≡ walkOf (length s) s
+  unfolding pageWalk
+  page-walk-is = rw page-walk-page
+
+  -- So that walk met no fault either.
+  walked : walkOf (length s) s .ok ≡ true
+  walked = rw page-walk-is at e
+
+  -- The page has its form.
+  pub page-walk-form : formBy (length s) s ≡ true
+  page-walk-form = page-by s page-walk-page
+
+  -- Where the page ends: at the end of the bytes.
+  pub page-walk-end : pageWalk s .end ≡ pageEnd s
+  page-walk-end = rw page-walk-is (walk-end (length s) s walked)
+
+  pub page-walk-whole : pageWalk s .end ≡ length s
+  page-walk-whole = page-walk-end ∙ page-ends s page-walk-page
+
+  -- The places of the components, packed into 16 places.
+  pub page-walk-places : pageWalk s .places ≡ sets (replicate 16 0) 0 (placesFrom (counted s) s 16)
+  page-walk-places = rw page-walk-is (walk-places (length s) s walked)
+
+  -- All places of the components are kept, one for each.
+  pub page-walk-taken : take (counted s) (pageWalk s .places) ≡ placesFrom (counted s) s 16
+  page-walk-taken = rw page-walk-is (walk-taken (length s) s walked (page-short s page-walk-page))
+
+  -- The components are what stands at the places found.
+  pub page-walk-components : map (componentAt s) (take (counted s) (pageWalk s .places)) ≡ componentsOf s
+  page-walk-components = rw page-walk-is (walk-components (length s) s walked (page-short s page-walk-page))
+
+  -- The component at each place found ends by the end of the bytes.
+  pub page-walk-within : (i : ℕ) → i < counted s → behind s (getD (pageWalk s .places) i 0) ≤ length s
+  page-walk-within i k = rw page-walk-is (walk-within (length s) s walked i (page-short s page-walk-page) k)

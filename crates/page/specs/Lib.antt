@@ -1,0 +1,11 @@
+pub mod Form
+pub mod Content
+pub mod Bytes
+pub mod FormLaws
+pub mod FirstPageLaws
+pub mod Walked
+pub mod Same
+pub mod BytesLaws
+pub mod PlaceLaws
+pub mod WrittenRead
+pub mod ReadWritten

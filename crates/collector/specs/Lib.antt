@@ -6,3 +6,4 @@ pub mod TakingLaws
 pub mod Sound
 pub mod RunLaws
 pub mod CutLaws
+pub mod CallLaws

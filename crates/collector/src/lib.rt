@@ -58,19 +58,11 @@ pub struct Reading {
     pub layout: Layout,
 }
 
-// A layout with no components.
-fn no_layout() -> Layout
-    ensures { λ r. ⌜ r ≡ packed 0 [] ⌝ }
-{
-    let components = [layout::no_component(); 16];
-    layout::pack(0, 0, components)
-}
-
 // A collector that has taken no page.
 pub fn new_collector() -> Collector
     ensures { λ r. ⌜ r ≡ newCollector ⌝ }
 {
-    let layout = no_layout();
+    let layout = layout::no_layout();
     Collector {
         pages: 0,
         complete: false,
@@ -222,14 +214,14 @@ pub fn layout_of(c: Collector) -> LayoutOut
     ensures { λ r. ⌜ r ≡ layoutOut c ⌝ }
 {
     if !is_sound(c) {
-        let layout = no_layout();
+        let layout = layout::no_layout();
         return LayoutOut {
             refusal: 1,
             layout: layout,
         };
     }
     if !c.complete {
-        let layout = no_layout();
+        let layout = layout::no_layout();
         return LayoutOut {
             refusal: 1,
             layout: layout,

@@ -12,7 +12,7 @@ ghost use Rattle.collector.specs.Runs.{refusedAt, closed, readRun, liste
 fn refused_at(number: u8, page: usize) -> Reading
     ensures { λ r. ⌜ r ≡ refusedAt number page ⌝ }
 {
-    let layout = crate::no_layout();
+    let layout = layout::no_layout();
     Reading {
         refusal: number,
         page: page,

@@ -1,9 +1,10 @@
 // The records of a layout and the rules that they keep.
 ghost use mathlib.Core.Path.{_≡_};
 ghost use mathlib.Core.Bool.{true};
+ghost use mathlib.Core.List.{[]};
 ghost use Prim.Native.Nat.{_≤_};
 ghost use lib.ListN.{take};
-ghost use Rattle.layout.specs.Records.{view, outlineOf, noComponent, packed};
+ghost use Rattle.layout.specs.Records.{view, outlineOf, packed};
 ghost use Rattle.layout.specs.Rules.{laterRuleBroken, ruleBroken, valid};
 ghost use Rattle.layout.specs.Known.{Kept};
 ghost use Rattle.layout.specs.Holder.{holderOf};
@@ -73,15 +74,19 @@ const NO_NEIGHBOUR: Neighbour = Neighbour {
     end: 0,
 };
 
-// What stands in the unused places of a layout.
-pub fn no_component() -> Component
-    ensures { λ r. ⌜ r ≡ noComponent ⌝ }
+// A layout with no components: its places are blank.
+pub fn no_layout() -> Layout
+    ensures { λ r. ⌜ r ≡ packed 0 [] ⌝ }
 {
-    NO_COMPONENT
+    Layout {
+        generation: 0,
+        count: 0,
+        components: [NO_COMPONENT; 16],
+    }
 }
 
-// The layout of a generation and the first `count` of the components; the rest of its places blank. Every layout that
-// is given back is made here.
+// The layout of a generation and the first `count` of the components; the rest of its places blank. Every layout with
+// components that is given back is made here.
 pub fn pack(generation: u32, count: usize, components: [Component; 16]) -> Layout
     requires { ⌜ count ≤ 16 ⌝ }
     ensures { λ r. ⌜ r ≡ packed generation (take count components) ⌝ }

@@ -14,10 +14,10 @@ use borrow.Author.Tests.{eqb-true, eqb-false, ne-eqb}
 use Rattle.lists.specs.Bools.{bool-cases, both-true}
 use Rattle.layout.specs.declared.Component.{Component}
 use Rattle.layout.specs.Records.{view, packed}
-use Rattle.layout.specs.RecordLaws.{pack-components-length, view-pack}
+use Rattle.layout.specs.RecordLaws.{view-pack}
 use Rattle.layout.specs.Rules.{valid}
 use Rattle.layout.specs.Facts.{Keeps}
-use Rattle.layout.specs.FactLaws.{keeps-facts, facts-keep, facts-valid}
+use Rattle.layout.specs.FactLaws.{keeps-facts, facts-valid}
 use Rattle.page.specs.declared.Head.{Head}
 use Rattle.page.specs.Form.{pageForm}
 use Rattle.page.specs.Content.{headOf, componentsOf}
@@ -31,6 +31,7 @@ use Rattle.collector.specs.Taking.{numberOf, isNext, added, contentRefusal, ope
 use Rattle.collector.specs.TakingLaws.{settled-number, refused-1, refused-2, refused-3, refused-content, refused-open}
 use Rattle.collector.specs.Giving.{layoutOut}
 use Rattle.collector.specs.Sound.{Sound, facts-sound, content-taken, view-joined, sound-added}
+use Rattle.collector.specs.RunLaws.{new-held}
 use Rattle.paging.specs.Paging.{isSome}
 use Rattle.round_trip.specs.Pages.{readPages}
 
@@ -174,20 +175,6 @@ reading c₀ c (p ∷ ps) len s e =
       sound = r .sound;
     }
 
--- Refusal 1 does not apply to a collector that has taken no page.
-pub new-sound : Sound newCollector
-new-sound =
-    record {
-      few = omega arith;
-      none = λ z. refl;
-      unfinished = λ z. refl;
-      within = omega arith;
-      whole = refl;
-      kept =
-          facts-keep true []
-          (record { fields = tt; linked = tt; ids = λ i. omega arith; objects = λ o. omega arith });
-    }
-
 -- Components that begin with those of a page are some.
 some-append : (cs ds : List Component) → 1 ≤ length cs → isSome (cs ++ ds) ≡ true
 some-append [] ds h = absurd (omega arith)
@@ -216,7 +203,7 @@ module _ (ps : List (List ℕ)) (c : Collector)
     (e : readPages newCollector ps ≡ record { answer = Complete; collector = c }) where
   -- What it tells.
   whole-reading : Reading newCollector c ps
-  whole-reading = reading newCollector c ps (pack-components-length []) new-sound e
+  whole-reading = reading newCollector c ps (new-held .places) (new-held .sound) e
 
   -- The collector gives the layout of the generation and the components that were gathered.
   given : layoutOut c ≡ record { refusal = 0; layout = packed (c .layout .generation) (gathered c) }

@@ -1,4 +1,5 @@
 pub mod Pages
+pub mod Samples
 pub mod InMemory
 pub mod Blanking
 pub mod PageLaws
@@ -6,3 +7,4 @@ pub mod WriteThenRead
 pub mod CompleteReading
 pub mod SamePages
 pub mod ReadThenWrite
+pub mod RunsOfPages

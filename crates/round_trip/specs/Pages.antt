@@ -21,7 +21,8 @@ readPages c [] = record { answer = cond (c .complete) Complete More; collector =
 readPages c (p ∷ ps) =
     cond (eqb (numberOf (pageIn c p .answer)) 0) (readPages (pageIn c p .collector) ps) (pageIn c p)
 
--- The pages of a layout from page k on, at most n of them: they are written one after another until there is no such page.
+-- The pages of a layout from page k on, at most n of them: they are written one after another until there is no such
+-- page.
 abbrev pub writtenFrom : ℕ → ℕ → Layout → List (List ℕ)
 writtenFrom zero k l = []
 writtenFrom (suc n) k l = cond (isSome (fromPage k (view l))) (writtenPage l k ∷ writtenFrom n (suc k) l) []
@@ -30,7 +31,8 @@ writtenFrom (suc n) k l = cond (isSome (fromPage k (view l))) (writtenPage l k �
 unfoldable pub writtenPages : Layout → List (List ℕ)
 writtenPages l = writtenFrom 16 0 l
 
--- The layout with the unused places of its arrays blank: all that a page tells of a layout, and all that any rule looks at.
+-- The layout with the unused places of its arrays blank: all that a page tells of a layout, and all that any rule looks
+-- at.
 abbrev pub blanked : Layout → Layout
 blanked l = packed (l .generation) (map trimmed (view l))
 
@@ -38,8 +40,8 @@ blanked l = packed (l .generation) (map trimmed (view l))
 abbrev pub firstSize : List ℕ → ℕ
 firstSize p = endsAt 0 (recordsAt p 16)
 
--- The pages were paged by the writer's rule: "The writer puts a component into the current page if it fits in 512 bytes, else it starts
--- the next": the first component of each later page did not fit into the page before it.
+-- The pages were paged by the writer's rule: "The writer puts a component into the current page if it fits in 512
+-- bytes, else it starts the next": the first component of each later page did not fit into the page before it.
 abbrev pub pagedByRule : List (List ℕ) → Bool
 pagedByRule [] = true
 pagedByRule (p ∷ []) = true

@@ -5,10 +5,9 @@ use mathlib.Core.Path.{_≡_, refl, sym, ap, _∙_}
 use mathlib.Core.List.{List, [], _∷_, _++_}
 use mathlib.Core.Bool.{true}
 use native.Mathlib.Omega.{arith}
-use native.Mathlib.Nat.{add-assoc}
 use lib.Dec.{ltb}
-use lib.ListN.{length, drop}
-use lib.Seq.{drop-drop, take-append-seam, drop-append-seam}
+use lib.ListN.{length}
+use lib.Seq.{take-append-seam, drop-append-seam}
 use borrow.Author.Tests.{ltb-true, le-leb, lt-leb}
 use Rattle.lists.specs.Bools.{both-true}
 use Rattle.bytes_le.specs.Numbers.{AreBytes}
@@ -23,28 +22,11 @@ use Rattle.page.specs.FormLaws.{length-components, some-components, page-by, pa
 use Rattle.page.specs.Same.{Few}
 use Rattle.page.specs.BytesLaws.{total}
 use Rattle.page.specs.ReadWritten.{componentsAt, read-whole, read-end, read-written}
-use Rattle.paging.specs.Paging.{fitting, inPage, pageStart, sizesOf, fromPage, firstPage, laterPages, isSome, headFor}
+use Rattle.paging.specs.Paging.{fitting, sizesOf, fromPage, firstPage, laterPages, isSome, headFor}
 use Rattle.paging.specs.Paging.{pageFrom, writtenPage}
+use Rattle.paging.specs.PagingLaws.{next-page}
 use Rattle.round_trip.specs.Pages.{writtenFrom, firstSize, pagedByRule, AllBytes}
 use Rattle.round_trip.specs.CompleteReading.{componentsIn, ArePages, some-left}
-
--- Before page k + 1 stand the components before page k and those of page k.
-pageStart-next : (k : ℕ) (sizes : List ℕ)
-    → pageStart (suc k) sizes ≡ pageStart k sizes + inPage (drop (pageStart k sizes) sizes)
-pageStart-next zero sizes = omega arith
-pageStart-next (suc k) sizes =
-    let rest = drop (inPage sizes) sizes in
-    ap (λ (n : ℕ). inPage sizes + n) (pageStart-next k rest) ∙ rw (drop-drop, ← add-assoc)
-
--- The sizes of the components behind the first n are the sizes behind the first n.
-sizes-drop : (n : ℕ) (cs : List Component) → sizesOf (drop n cs) ≡ drop n (sizesOf cs)
-sizes-drop zero cs = refl
-sizes-drop (suc n) [] = refl
-sizes-drop (suc n) (c ∷ cs) = sizes-drop n cs
-
--- The components from page k + 1 on are those from page k on, without those of page k.
-next-page : (k : ℕ) (cs : List Component) → fromPage (suc k) cs ≡ laterPages (fromPage k cs)
-next-page k cs = rw (pageStart-next k (sizesOf cs), ← drop-drop, sizes-drop)
 
 -- The first of the components, if there is one, does not fit into `room` bytes behind the `used` bytes.
 abbrev Spills : ℕ → ℕ → List Component → Type 0

@@ -69,8 +69,10 @@ number c =
     let v : view (b .with-components .result) ≡ gathered (a .c) ++ cs =
     ap view (built b) ∙ view-joined (headOf p .generation) l cs (omega arith) in
     let m : h .head-of .result .more ≡ headOf p .more = ap (λ (x : Head). x .more) (h .head-of .ensures) in
+    let r : c .rule-broken-from .result ≡ ruleBroken (h .head-of .result .more) (view (b .with-components .result)) =
+    c .rule-broken-from .ensures in
     refused-rule (a .c) (headOf p) cs (is-next (b .before .before .before .before .before) (b .before .before .before .before .if1 .left)) (omega arith)
-    ∙ sym (c .rule-broken-from .ensures ∙ ap₂ ruleBroken m v)
+    ∙ sym (r ∙ ap₂ ruleBroken m v)
 
 returns : tie.Need-returns
 returns c =
@@ -140,7 +142,9 @@ returns-4 c =
     let s = now (a .s) in
     let m : h .head-of .result .more ≡ headOf s .more = ap (λ (x : Head). x .more) (h .head-of .ensures) in
     let z : contentRefusal (a .c) (headOf s) (componentsOf s) ≡ 0 = number r ∙ omega arith in
-    c .accept .ensures ∙ ap₂ (λ (more : Bool) (l : Layout). accepted (a .c .pages + 1) more l) m (built b)
+    let t : c .accept .result ≡ accepted (a .c .pages + 1) (h .head-of .result .more) (b .with-components .result) =
+    c .accept .ensures in
+    t ∙ ap₂ (λ (more : Bool) (l : Layout). accepted (a .c .pages + 1) more l) m (built b)
     ∙ sym (ap (λ (k : ℕ). settled k (a .c) (headOf s) (componentsOf s)) z)
 
 pub take-walked-spec : {M : Type 1} → statement M

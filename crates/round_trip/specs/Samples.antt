@@ -1,0 +1,45 @@
+-- Document 01's page of 72 bytes, and that the definitions read it and write it as the paper says.
+use Prim.Native.Nat.{ℕ}
+use mathlib.Core.Path.{_≡_, refl}
+use mathlib.Core.List.{List, [], _∷_}
+use mathlib.Core.Bool.{true}
+use Rattle.bytes_le.specs.Numbers.{u16At, u32At, u64At, i32Of, u16Bytes, u32Bytes, u64Bytes, bitsOf}
+use Rattle.bytes_le.specs.Flags.{isSet, onlyFirst, flagWord}
+use Rattle.layout.specs.Records.{packObjects, packComponents, packed}
+use Rattle.layout.specs.Fields.{nonzeroMultiple, extensionOk, stripedOk, kindOk, isMinusOne, isTarget, firstTargetOk, fieldsOk}
+use Rattle.layout.specs.Neighbours.{neighboursHold}
+use Rattle.layout.specs.Distinct.{sameObject, distinctHold}
+use Rattle.layout.specs.Rules.{ruleBroken}
+use Rattle.layout.specs.Samples.{initOf, onePage}
+use Rattle.page.specs.Form.{objectForm, componentMarks, recordsAt, componentForm, headForm, formBy, pageForm}
+use Rattle.page.specs.Content.{objectAt, componentAt, headOf, componentsOf}
+use Rattle.page.specs.Bytes.{objectBytes, words, longs, fieldBytes, componentBytes, headBytes, pageBytes}
+use Rattle.collector.specs.declared.Answer.the-variants.{Complete}
+use Rattle.collector.specs.Collector.{newCollector, countsAgree, collectorOk}
+use Rattle.collector.specs.Taking.{isNext, contentRefusal, openRefusal, pageRefusal, settled, pageIn}
+use Rattle.paging.specs.Paging.{writtenPage}
+use Rattle.round_trip.specs.Pages.{writtenPages}
+
+-- "One whole page, 72 bytes (generation 5, one component of 64 KiB on target 2, object 7)".
+unfoldable pub sample : List ℕ
+sample =
+    0x50 ∷ 0x48 ∷ 0x00 ∷ 0x00 ∷ 0x00 ∷ 0x00 ∷ 0x01 ∷ 0x00 ∷ 0x05 ∷ 0x00 ∷ 0x00 ∷ 0x00 ∷ 0x00 ∷ 0x00 ∷ 0x00 ∷ 0x00
+    ∷ 0x43 ∷ 0x50 ∷ 0x01 ∷ 0x00 ∷ 0x01 ∷ 0x00 ∷ 0x01 ∷ 0x00 ∷ 0x00 ∷ 0x00 ∷ 0x01 ∷ 0x00 ∷ 0x02 ∷ 0x00 ∷ 0x00 ∷ 0x00
+    ∷ 0x00 ∷ 0x00 ∷ 0x00 ∷ 0x00 ∷ 0x00 ∷ 0x00 ∷ 0x00 ∷ 0x00 ∷ 0x00 ∷ 0x00 ∷ 0x01 ∷ 0x00 ∷ 0x00 ∷ 0x00 ∷ 0x00 ∷ 0x00
+    ∷ 0x00 ∷ 0x00 ∷ 0x00 ∷ 0x00 ∷ 0x00 ∷ 0x00 ∷ 0x00 ∷ 0x00
+    ∷ 0x4F ∷ 0x42 ∷ 0x00 ∷ 0x00 ∷ 0x02 ∷ 0x00 ∷ 0x00 ∷ 0x00 ∷ 0x07 ∷ 0x00 ∷ 0x00 ∷ 0x00 ∷ 0x00 ∷ 0x00 ∷ 0x00 ∷ 0x00
+    ∷ []
+
+-- A new collector takes it and is complete, with the layout that the paper names.
+pub sample-read : pageIn newCollector sample
+    ≡ record {
+      answer = Complete;
+      collector = record { pages = 1; complete = true; layout = packed 5 onePage };
+    }
+unfolding settled pageRefusal openRefusal contentRefusal isNext collectorOk countsAgree pageForm formBy headForm componentForm componentMarks recordsAt objectForm headOf componentsOf componentAt objectAt u16At u32At u64At i32Of isSet onlyFirst packObjects packComponents ruleBroken fieldsOk kindOk extensionOk stripedOk nonzeroMultiple firstTargetOk isTarget isMinusOne neighboursHold distinctHold sameObject sample initOf onePage
+sample-read = refl
+
+-- That layout is written as that one page.
+pub sample-written : writtenPages (packed 5 onePage) ≡ sample ∷ []
+unfolding writtenPages writtenPage pageBytes headBytes words componentBytes fieldBytes longs objectBytes u16Bytes u32Bytes u64Bytes bitsOf flagWord packObjects packComponents initOf onePage sample
+sample-written = refl

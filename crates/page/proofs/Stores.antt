@@ -5,11 +5,11 @@ use mathlib.Core.List.{List, _∷_, _++_}
 use native.Mathlib.Omega.{arith}
 use lib.ListN.{length}
 use lib.Seq.{sets}
-use Rattle.bytes_le.specs.Numbers.{u16Bytes, u32Bytes, u64Bytes}
+use Rattle.bytes_le.specs.Numbers.{u16Bytes}
 use Rattle.layout.specs.declared.Object.{Object}
-use Rattle.layout.specs.declared.Component.{Component}
 use Rattle.lists.specs.Slices.{sets-append}
-use Rattle.page.specs.Bytes.{objectBytes, objectsBytes, words, longs, fieldBytes}
+use Rattle.page.specs.Bytes.{objectBytes, objectsBytes, words}
+use Rattle.page.specs.BytesLaws.{length-object}
 
 -- Two calls, the second of which writes where the first ended: both have written one run.
 pub two : (b b₁ b₂ w x : List ℕ) (at i : ℕ) → b₁ ≡ sets b at w → b₂ ≡ sets b₁ i x → i ≡ at + length w
@@ -30,16 +30,6 @@ module _ (b b₁ b₂ w x : List ℕ) (at i : ℕ) (p₁ : b₁ ≡ sets b at w)
 pub length-words : (a b c d : ℕ) → length (words a b c d) ≡ 8
 unfolding words u16Bytes
 length-words a b c d = refl
-
--- "Object, 16 bytes"
-pub length-object : (o : Object) → length (objectBytes o) ≡ 16
-unfolding objectBytes u16Bytes u32Bytes u64Bytes
-length-object o = refl
-
--- "Component, 40 bytes"
-pub length-fields : (c : Component) → length (fieldBytes c) ≡ 40
-unfolding fieldBytes words longs u16Bytes u32Bytes u64Bytes
-length-fields c = refl
 
 -- Once object record i is stored behind i others, the records behind it are left to store, 16 bytes further on.
 pub object-stored : (b b₁ : List ℕ) (at i place : ℕ) (o : Object) (os : List Object) → b₁ ≡ sets b place (objectBytes o)

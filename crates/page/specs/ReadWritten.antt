@@ -31,6 +31,8 @@ use Rattle.page.specs.Bytes.{objectBytes, objectsBytes, words, longs, fi
 use Rattle.page.specs.Bytes.{componentsBytes, headBytes, pageBytes}
 use Rattle.page.specs.Same.{trimmed, Fits, AllFit, FitsHead, Few}
 use Rattle.page.specs.BytesLaws.{total}
+use Rattle.page.specs.FormLaws.{length-components, form-room, form-head, form-components, some-components}
+use Rattle.page.specs.FormLaws.{page-by, page-ends}
 use Rattle.page.specs.PlaceLaws.{object-from, object-form-from, marks-from, component-from}
 
 -- Two parts of the bytes, one behind the other, are one.
@@ -192,11 +194,6 @@ module _ (s : List ℕ) (at : ℕ) (few : recordCount (componentAt s at) ≤ 16)
 abbrev pub componentsAt : ℕ → List ℕ → ℕ → List Component
 componentsAt n s at = map (componentAt s) (placesFrom n s at)
 
--- There are as many components as are asked for.
-length-components-at : (n : ℕ) (s : List ℕ) (at : ℕ) → length (componentsAt n s at) ≡ n
-length-components-at zero s at = refl
-length-components-at (suc n) s at = ap suc (length-components-at n s (behind s at))
-
 -- Components one behind the other, each of them to have at most 16 object records: they are written as the bytes that
 -- they stand in.
 pub read-each : (n : ℕ) (s : List ℕ) (at : ℕ) → Few (componentsAt n s at) → AreBytes s → (limit : ℕ) → limit ≤ length s
@@ -224,23 +221,13 @@ pub read-all-trimmed : (n : ℕ) (s : List ℕ) (at : ℕ) → Few (componentsAt
 read-all-trimmed zero s at f = refl
 read-all-trimmed (suc n) s at f = rw (read-trimmed s at (f .0), read-all-trimmed n s (behind s at) (f .1))
 
--- The tests that make the form of a head, and of a page.
+-- The tests that make the form of a head.
 head-tests : (s : List ℕ) → headForm s ≡ true → (i : ℕ)
     → getD (eqb (u16At s 0) 0x4850 ∷ onlyFirst 1 (u16At s 2) ∷ leb 1 (counted s) ∷ eqb (u32At s 12) 0 ∷ []) i true
     ≡ true
 unfolding headForm
 head-tests s e =
     conjunction-at (eqb (u16At s 0) 0x4850) (onlyFirst 1 (u16At s 2) ∷ leb 1 (counted s) ∷ eqb (u32At s 12) 0 ∷ []) e
-
-form-tests : (limit : ℕ) (s : List ℕ) → formBy limit s ≡ true → (i : ℕ)
-    → getD (leb 16 limit ∷ headForm s ∷ componentsForm (counted s) limit s 16 ∷ []) i true ≡ true
-unfolding formBy
-form-tests limit s e = conjunction-at (leb 16 limit) (headForm s ∷ componentsForm (counted s) limit s 16 ∷ []) e
-
-page-tests : (s : List ℕ) → pageForm s ≡ true → (i : ℕ)
-    → getD (leb (length s) 512 ∷ formBy (length s) s ∷ eqb (pageEnd s) (length s) ∷ []) i true ≡ true
-unfolding pageForm
-page-tests s e = conjunction-at (leb (length s) 512) (formBy (length s) s ∷ eqb (pageEnd s) (length s) ∷ []) e
 
 -- The head at the beginning of the bytes.
 head-first : (s : List ℕ) → AreBytes s → 16 ≤ length s → headForm s ≡ true → headBytes (headOf s) ≡ take 16 s
@@ -280,10 +267,9 @@ module _ (s : List ℕ) (few : Few (componentsOf s)) where
       → s ≡ pageBytes (headOf s) (componentsOf s) ++ drop (pageEnd s) s
   unfolding pageBytes componentsOf
   read-page b limit h e =
-      let p = form-tests limit s e in
-      let k : 16 ≤ limit = leb-true 16 limit (p 0) in
-      let w = head-first s b (omega arith) (p 1) in
-      let r = read-each (counted s) s 16 few-from b limit h (p 2) in
+      let k = form-room limit s e in
+      let w = head-first s b (omega arith) (form-head limit s e) in
+      let r = read-each (counted s) s 16 few-from b limit h (form-components limit s e) in
       sym (take-append-drop 16 s) ∙ rw (r, w, append-assoc)
 
 -- What is read fits: the components,
@@ -293,11 +279,10 @@ fits-read s b few = read-all-fit (counted s) s 16 few b
 
 -- and the head, which counts them.
 pub fits-head-read : (s : List ℕ) → AreBytes s → pageForm s ≡ true → FitsHead (headOf s) (length (componentsOf s))
-unfolding headOf componentsOf
+unfolding headOf
 fits-head-read s b e =
-    let n = counted s in
-    let c : length (componentsAt n s 16) ≡ n = length-components-at n s 16 in
-    let k : 1 ≤ n = leb-true 1 n (head-tests s (form-tests (length s) s (page-tests s e 1) 1) 2) in
+    let c = length-components s in
+    let k = some-components (length s) s (page-by s e) in
     record {
       number = u16-below s 4 b;
       generation = u32-below s 8 b;
@@ -311,7 +296,5 @@ fits-head-read s b e =
 pub read-written : (s : List ℕ) → AreBytes s → pageForm s ≡ true → Few (componentsOf s)
     → pageBytes (headOf s) (componentsOf s) ≡ s
 read-written s b e f =
-    let p = page-tests s e in
-    let k : pageEnd s ≡ length s = eqb-true (pageEnd s) (length s) (p 2) in
-    let r : drop (pageEnd s) s ≡ [] = rw k (drop-length s) in
-    sym (read-page s f b (length s) (omega arith) (p 1) ∙ rw (r, append-nil))
+    let r : drop (pageEnd s) s ≡ [] = rw (page-ends s e) (drop-length s) in
+    sym (read-page s f b (length s) (omega arith) (page-by s e) ∙ rw (r, append-nil))

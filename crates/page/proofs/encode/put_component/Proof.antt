@@ -3,7 +3,8 @@ use native.Mathlib.Omega.{arith}
 use lib.ListN.{take}
 use denote.Ref.{now}
 use Rattle.page.specs.Bytes.{objectsBytes, fieldBytes, componentBytes}
-use Rattle.page.proofs.Stores.{two, length-fields}
+use Rattle.page.specs.BytesLaws.{length-fields}
+use Rattle.page.proofs.Stores.{two}
 use borrow.Author.Needs.{needs}
 use Rattle.page.proofs.encode.put_component.Statement.{statement}
 use Rattle.page.proofs.encode.put_component.Tie as tie

@@ -34,7 +34,8 @@ module _ (c : Collector) (s : List ℕ) where
   pub answer-number : numberOf (pageIn c s .answer) ≡ pageRefusal c s
   answer-number = settled-number (pageRefusal c s) c (headOf s) (componentsOf s)
 
-  -- A page that is taken answers by its own flag, "more wanted" or "complete", and its components stand behind those gathered.
+  -- A page that is taken answers by its own flag, "more wanted" or "complete", and its components stand behind those
+  -- gathered.
   pub taken-answer : pageRefusal c s ≡ 0 → pageIn c s .answer ≡ cond (headOf s .more) More Complete
   taken-answer e = settled-taken (pageRefusal c s) c (headOf s) (componentsOf s) e .0
 
@@ -57,6 +58,7 @@ module _ (c : Collector) (s : List ℕ) where
   more-outstanding e m = ap (λ (d : Collector). d .complete) (taken-collector e) ∙ rw m
 
 -- and a collector with pages outstanding never gives a layout.
-pub outstanding-none : (c : Collector) → c .complete ≡ false → layoutOut c ≡ record { refusal = 1; layout = packed 0 [] }
+pub outstanding-none : (c : Collector) → c .complete ≡ false
+    → layoutOut c ≡ record { refusal = 1; layout = packed 0 [] }
 unfolding layoutOut
 outstanding-none c e = bool-cases (collectorOk c) (λ k. rw (k, e)) (λ k. rw k)

@@ -17,13 +17,15 @@ newCollector = record { pages = 0; complete = false; layout = packed 0 [] }
 abbrev pub gathered : Collector → List Component
 gathered c = view (c .layout)
 
--- "A collector has taken 0 pages exactly if it has no components, then is not complete, and never has more pages than components".
+-- "A collector has taken 0 pages exactly if it has no components, then is not complete, and never has more pages than
+-- components".
 unfoldable pub countsAgree : ℕ → Bool → ℕ → Bool
 countsAgree pages complete components =
     Bool·beq (eqb pages 0) (eqb components 0) && not (complete && eqb pages 0) && leb pages components
 
--- Refusal 1 does not apply to the collector: it has at most 16 components, as many as its count says; its numbers agree; and the
--- gathered components break no rule, as far as it can be asked: where the collector is not complete, pages are outstanding.
+-- Refusal 1 does not apply to the collector: it has at most 16 components, as many as its count says; its numbers
+-- agree; and the gathered components break no rule, as far as it can be asked: where the collector is not complete,
+-- pages are outstanding.
 unfoldable pub collectorOk : Collector → Bool
 collectorOk c =
     leb (c .layout .count) 16

@@ -50,7 +50,8 @@ module _ (s : List ℕ) (some : 0 < length s) where
       listed-short l = rw (more, le-leb 2 (length s) h, le-leb (u16At s 0) 512 k, lt-leb (2 + u16At s 0) (length s) l)
 
       -- A whole page.
-      pub listed-next : 2 + u16At s 0 ≤ length s → listedCut s ≡ next (take (u16At s 0) (drop 2 s)) (drop (2 + u16At s 0) s)
+      pub listed-next : 2 + u16At s 0 ≤ length s
+          → listedCut s ≡ next (take (u16At s 0) (drop 2 s)) (drop (2 + u16At s 0) s)
       unfolding listedCut
       listed-next l = rw (more, le-leb 2 (length s) h, le-leb (u16At s 0) 512 k, le-leb (2 + u16At s 0) (length s) l)
 
@@ -93,8 +94,10 @@ module _ (s : List ℕ) (some : 0 < length s) where
       let t = take (pageEnd s) s in
       bool-cases whole
       (λ w. let g : pageForm t ≡ false = sym (ap (λ (b : Bool). b && pageForm t) w) ∙ sym (first-page s) ∙ f in
-      let n : numberOf (openIn c t .answer) ≡ 3 = settled-number (openRefusal c t) c (headOf t) (componentsOf t) ∙ refused-3 c t e g in
-      read-refused c h hostCut s e t (drop (pageEnd s) s) (host-next (leb-true (pageEnd s) (length s) w)) 3 n (omega arith))
+      let n : numberOf (openIn c t .answer) ≡ 3 =
+      settled-number (openRefusal c t) c (headOf t) (componentsOf t) ∙ refused-3 c t e g in
+      let k : pageEnd s ≤ length s = leb-true (pageEnd s) (length s) w in
+      read-refused c h hostCut s e t (drop (pageEnd s) s) (host-next k) 3 n (omega arith))
       (λ w. read-broken c h hostCut s e (host-cut (leb-false (pageEnd s) (length s) w)))
 
   -- Where they do, the page is cut off at its end, and taking it is taking what it says.

@@ -6,7 +6,8 @@ use Rattle.collector.specs.declared.Collector.{Collector}
 use Rattle.collector.specs.declared.LayoutOut.{LayoutOut}
 use Rattle.collector.specs.Collector.{gathered, collectorOk}
 
--- "Only a complete collector gives a layout": the gathered components and the generation; else refusal 1 and a blank layout.
+-- "Only a complete collector gives a layout": the gathered components and the generation; else refusal 1 and a blank
+-- layout.
 unfoldable pub layoutOut : Collector → LayoutOut
 layoutOut c =
     cond (collectorOk c && c .complete)

@@ -64,7 +64,8 @@ module _ (c : Collector) (h : Held c) where
     pub taken-held : Held (openIn c p .collector)
     taken-held =
         let t = open-taken c p refusal in
-        let some : 1 ≤ length (componentsOf p) = omega (arith, length-components p, some-components (length p) p (page-by p (t .1))) in
+        let some : 1 ≤ length (componentsOf p) =
+        omega (arith, length-components p, some-components (length p) p (page-by p (t .1))) in
         let k : Held (added c (headOf p) (componentsOf p)) =
         record {
           sound = sound-added c (headOf p) (componentsOf p) (h .places) some (h .sound) (t .2);
@@ -92,12 +93,15 @@ module _ (c : Collector) (h : Held c) where
       read-broken n = read-next ∙ ap (following (readOn cut (16 - c .pages)) c) n
 
       module _ (p rest : List ℕ) (n : cut s ≡ next p rest) where
-        pub read-refused : (k : ℕ) → numberOf (openIn c p .answer) ≡ k → 0 < k → readFrom cut c s ≡ refusedAt k (c .pages)
+        pub read-refused : (k : ℕ) → numberOf (openIn c p .answer) ≡ k → 0 < k
+            → readFrom cut c s ≡ refusedAt k (c .pages)
         read-refused k f z =
-            let x : eqb (numberOf (openIn c p .answer)) 0 ≡ false = ne-eqb (numberOf (openIn c p .answer)) 0 (λ q. omega arith) in
+            let m = numberOf (openIn c p .answer) in
+            let x : eqb m 0 ≡ false = ne-eqb m 0 (λ q. omega arith) in
             read-next ∙ ap (following (readOn cut (16 - c .pages)) c) n ∙ rw (page-open p, x, f)
 
-        pub read-taken : numberOf (openIn c p .answer) ≡ 0 → readFrom cut c s ≡ readFrom cut (openIn c p .collector) rest
+        pub read-taken : numberOf (openIn c p .answer) ≡ 0
+            → readFrom cut c s ≡ readFrom cut (openIn c p .collector) rest
         read-taken f =
             let x : eqb (numberOf (openIn c p .answer)) 0 ≡ true = eq-eqb (numberOf (openIn c p .answer)) 0 f in
             let l : 16 - c .pages ≡ 17 - openIn c p .collector .pages = omega (arith, taken-pages p f) in
@@ -120,7 +124,14 @@ unfolding ruleBroken neighboursHold distinctHold packComponents
 new-held =
     record {
       sound =
-          record { few = omega arith; none = λ e. refl; unfinished = λ e. refl; within = omega arith; whole = refl; kept = refl };
+          record {
+            few = omega arith;
+            none = λ e. refl;
+            unfinished = λ e. refl;
+            within = omega arith;
+            whole = refl;
+            kept = refl;
+          };
       places = refl;
     }
 

@@ -1,5 +1,5 @@
--- Runs of pages: pages are taken from bytes one after another, into a new collector, until it is complete. How the next page is cut from
--- the bytes is a parameter.
+-- Runs of pages: pages are taken from bytes one after another, into a new collector, until it is complete. How the next
+-- page is cut from the bytes is a parameter.
 use Prim.Native.Nat.{ℕ, zero, suc, _+_}
 use mathlib.Core.List.{List, [], _∷_}
 use mathlib.Core.Bool.{cond, _&&_}
@@ -28,8 +28,9 @@ abbrev pub closed : Collector → List ℕ → Reading
 closed c [] = record { refusal = 0; page = c .pages; layout = packed (c .layout .generation) (gathered c) }
 closed c (b ∷ rest) = refusedAt 2 (c .pages)
 
--- A reading whose collector wants more pages, by what stands next: "Input that ends with pages outstanding gives number 1 with P the pages
--- read"; a page that is not whole gives 3, and one that is refused its number; `on` reads on behind a page that is taken.
+-- A reading whose collector wants more pages, by what stands next: "Input that ends with pages outstanding gives number
+-- 1 with P the pages read"; a page that is not whole gives 3, and one that is refused its number; `on` reads on behind
+-- a page that is taken.
 abbrev pub following : (Collector → List ℕ → Reading) → Collector → Next → Reading
 following on c ended = refusedAt 1 (c .pages)
 following on c broken = refusedAt 3 (c .pages)
@@ -43,12 +44,13 @@ abbrev pub readOn : (List ℕ → Next) → ℕ → Collector → List ℕ → R
 readOn cut zero c s = refusedAt 5 (c .pages)
 readOn cut (suc left) c s = cond (c .complete) (closed c s) (following (readOn cut left) c (cut s))
 
--- Reading from a new collector. It takes at most 16 pages, since each has a component, and the 17th look at the bytes finds it complete
--- or refuses; so the reading never ends for want of pages to come.
+-- Reading from a new collector. It takes at most 16 pages, since each has a component, and the 17th look at the bytes
+-- finds it complete or refuses; so the reading never ends for want of pages to come.
 unfoldable pub readRun : (List ℕ → Next) → List ℕ → Reading
 readRun cut s = readOn cut 17 newCollector s
 
--- The listing's pages: "The program reads pages, each after its u16 length"; "a cut length or page, or a length above 512, gives 3".
+-- The listing's pages: "The program reads pages, each after its u16 length"; "a cut length or page, or a length above
+-- 512, gives 3".
 unfoldable pub listedCut : List ℕ → Next
 listedCut s =
     cond (eqb (length s) 0)

@@ -35,14 +35,20 @@ unfolding collectorOk countsAgree
 sound-facts c e =
     let n = c .layout .count in
     let same = Bool·beq (eqb (c .pages) 0) (eqb n 0) in
-    let shut = not (c .complete && eqb (c .pages) 0) in
+    let done = c .complete && eqb (c .pages) 0 in
+    let shut = not done in
     let agree = countsAgree (c .pages) (c .complete) n in
-    let p = conjunction-at (leb n 16) (agree ∷ eqb (length (gathered c)) n ∷ eqb (ruleBroken (not (c .complete)) (gathered c)) 0 ∷ []) e in
+    let whole = eqb (length (gathered c)) n in
+    let kept = eqb (ruleBroken (not (c .complete)) (gathered c)) 0 in
+    let p = conjunction-at (leb n 16) (agree ∷ whole ∷ kept ∷ []) e in
     let q = conjunction-at same (shut ∷ leb (c .pages) n ∷ []) (p 1) in
     record {
       few = leb-true n 16 (p 0);
       none = λ z. eqb-true n 0 (sym (beq-true (eqb (c .pages) 0) (eqb n 0) (q 0)) ∙ eq-eqb (c .pages) 0 z);
-      unfinished = λ z. bool-cases (c .complete) (λ y. clash {b = c .complete && eqb (c .pages) 0} (true-both y (eq-eqb (c .pages) 0 z)) (not-true (c .complete && eqb (c .pages) 0) (q 1))) (λ y. y);
+      unfinished =
+          λ z. bool-cases (c .complete)
+          (λ y. clash {b = done} (true-both y (eq-eqb (c .pages) 0 z)) (not-true done (q 1)))
+          (λ y. y);
       within = leb-true (c .pages) n (q 2);
       whole = eqb-true (length (gathered c)) n (p 2);
       kept = eqb-true (ruleBroken (not (c .complete)) (gathered c)) 0 (p 3);
@@ -63,7 +69,9 @@ facts-sound c s =
     bool-cases (eqb (c .pages) 0)
     (λ z. rw (s .unfinished (eqb-true (c .pages) 0 z)))
     (λ z. bool-cases (c .complete) (λ y. rw (y, z)) (λ y. rw y)) in
-    rw (le-leb n 16 (s .few), zero-alike (c .pages) n (s .none) (s .within), shut, le-leb (c .pages) n (s .within), eq-eqb (length (gathered c)) n (s .whole), s .kept)
+    let same = zero-alike (c .pages) n (s .none) (s .within) in
+    let whole = eq-eqb (length (gathered c)) n (s .whole) in
+    rw (le-leb n 16 (s .few), same, shut, le-leb (c .pages) n (s .within), whole, s .kept)
 
 -- Components behind those of a layout, where its array has room for them.
 pub view-joined : (g : ℕ) (l : Layout) (cs : List Component) → l .count + length cs ≤ length (l .components)
@@ -71,13 +79,16 @@ pub view-joined : (g : ℕ) (l : Layout) (cs : List Component) → l .count + le
 view-joined g l cs h =
     let n = l .count in
     let t = take n (l .components) in
-    let len : length (t ++ cs) ≡ n + length cs = length-append t cs ∙ rw (length-take-le n (l .components) (omega arith)) in
+    let len : length (t ++ cs) ≡ n + length cs =
+    length-append t cs ∙ rw (length-take-le n (l .components) (omega arith)) in
     ap (take (n + length cs)) (sets-eq cs (l .components) n h)
     ∙ take-at (t ++ cs) (drop (n + length cs) (l .components)) (n + length cs) len
 
 -- No refusal by what the page says: 4 to 8 do not apply.
 pub content-taken : (c : Collector) (h : Head) (cs : List Component) → contentRefusal c h cs ≡ 0
-    → (isNext (c .pages) (c .layout .generation) h ≡ true) × (c .layout .count + length cs ≤ 16) × (ruleBroken (h .more) (gathered c ++ cs) ≡ 0)
+    → (isNext (c .pages) (c .layout .generation) h ≡ true)
+    × (c .layout .count + length cs ≤ 16)
+    × (ruleBroken (h .more) (gathered c ++ cs) ≡ 0)
 unfolding contentRefusal
 content-taken c h cs e =
     let room = leb (c .layout .count + length cs) 16 in
@@ -102,10 +113,10 @@ sound-added c h cs l some s e =
       kept = rw (v) (bool-cases (h .more) (λ m. rw m (rw m at (t .2))) (λ m. rw m (rw m at (t .2))));
     }
 
--- Where the collector is not complete, the layout with more components behind the gathered ones is one whose first components are known
--- to break no rule with pages outstanding.
-pub kept-joined : (c : Collector) (g : ℕ) (cs : List Component) → length (c .layout .components) ≡ 16 → Sound c → c .complete ≡ false
-    → c .layout .count + length cs ≤ 16 → Kept (c .layout .count) (joined g (c .layout) cs)
+-- Where the collector is not complete, the layout with more components behind the gathered ones is one whose first
+-- components are known to break no rule with pages outstanding.
+pub kept-joined : (c : Collector) (g : ℕ) (cs : List Component) → length (c .layout .components) ≡ 16 → Sound c
+    → c .complete ≡ false → c .layout .count + length cs ≤ 16 → Kept (c .layout .count) (joined g (c .layout) cs)
 kept-joined c g cs l s e h =
     let v = view-joined g (c .layout) cs (omega arith) in
     let t : take (c .layout .count) (view (joined g (c .layout) cs)) ≡ gathered c =

@@ -49,8 +49,8 @@ accepted pages more l =
       collector = record { pages = pages; complete = not more; layout = l };
     }
 
--- The number of the refusal of a page of good form by what it says, 4 to 8, or 0. "Numbers 6 to 8 are asked once 3 to 5 don't apply,
--- over the gathered and new components together", with pages outstanding if the page's flag says so.
+-- The number of the refusal of a page of good form by what it says, 4 to 8, or 0. "Numbers 6 to 8 are asked once 3 to 5
+-- don't apply, over the gathered and new components together", with pages outstanding if the page's flag says so.
 unfoldable pub contentRefusal : Collector → Head → List Component → ℕ
 contentRefusal c h cs =
     cond (isNext (c .pages) (c .layout .generation) h)
@@ -67,8 +67,8 @@ openRefusal c s = cond (c .complete) 2 (cond (pageForm s) (contentRefusal c (hea
 unfoldable pub pageRefusal : Collector → List ℕ → ℕ
 pageRefusal c s = cond (collectorOk c) (openRefusal c s) 1
 
--- What is given back under the number of a refusal, or under 0: the collector as it was and that number; or the collector with the
--- page, and "more wanted" or "complete" by the page's flag.
+-- What is given back under the number of a refusal, or under 0: the collector as it was and that number; or the
+-- collector with the page, and "more wanted" or "complete" by the page's flag.
 unfoldable pub settled : ℕ → Collector → Head → List Component → Taken
 settled zero c h cs = accepted (c .pages + 1) (h .more) (joined (h .generation) (c .layout) cs)
 settled (suc n) c h cs = record { answer = Refused (suc n); collector = c }

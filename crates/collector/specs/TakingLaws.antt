@@ -15,7 +15,8 @@ use Rattle.page.specs.Content.{headOf, componentsOf}
 use Rattle.collector.specs.declared.Collector.{Collector}
 use Rattle.collector.specs.declared.Answer.the-variants.{Refused}
 use Rattle.collector.specs.Collector.{gathered, collectorOk}
-use Rattle.collector.specs.Taking.{numberOf, isNext, joined, accepted, contentRefusal, openRefusal, pageRefusal, settled}
+use Rattle.collector.specs.Taking.{numberOf, isNext, joined, accepted, settled}
+use Rattle.collector.specs.Taking.{contentRefusal, openRefusal, pageRefusal}
 
 -- Under the number of a refusal the collector is given back as it was, with that number.
 pub settled-refused : (n : ℕ) (c : Collector) (h : Head) (cs : List Component) → 0 < n
@@ -49,12 +50,13 @@ module _ (c : Collector) (h : Head) (cs : List Component) where
     refused-5 k = rw (e, lt-leb (c .layout .count + length cs) 16 k)
 
     -- and else by the component rule that the gathered and the new components break, if any.
-    pub refused-rule : c .layout .count + length cs ≤ 16 → contentRefusal c h cs ≡ ruleBroken (h .more) (gathered c ++ cs)
+    pub refused-rule : c .layout .count + length cs ≤ 16
+        → contentRefusal c h cs ≡ ruleBroken (h .more) (gathered c ++ cs)
     unfolding contentRefusal
     refused-rule k = rw (e, le-leb (c .layout .count + length cs) 16 k)
 
--- What a page is refused by where the collector keeps the rules: 2 where it is complete, 3 where the bytes are not a page, and else by
--- what the page says.
+-- What a page is refused by where the collector keeps the rules: 2 where it is complete, 3 where the bytes are not a
+-- page, and else by what the page says.
 module _ (c : Collector) (s : List ℕ) where
   pub refused-2 : c .complete ≡ true → openRefusal c s ≡ 2
   unfolding openRefusal
@@ -64,7 +66,8 @@ module _ (c : Collector) (s : List ℕ) where
   unfolding openRefusal
   refused-3 e f = rw (e, f)
 
-  pub refused-content : c .complete ≡ false → pageForm s ≡ true → openRefusal c s ≡ contentRefusal c (headOf s) (componentsOf s)
+  pub refused-content : c .complete ≡ false → pageForm s ≡ true
+      → openRefusal c s ≡ contentRefusal c (headOf s) (componentsOf s)
   unfolding openRefusal
   refused-content e f = rw (e, f)
 

@@ -27,8 +27,8 @@ words a b c d = u16Bytes a ++ u16Bytes b ++ u16Bytes c ++ u16Bytes d
 unfoldable pub longs : ℕ → ℕ → ℕ → List ℕ
 longs a b c = u64Bytes a ++ u64Bytes b ++ u64Bytes c
 
--- "Component, 40 bytes: mark 43 50; u16 flags, ..; u16 id; u16 stripe count; u32 stripe size; i32 first target; u64 begin; u64
--- end; u64 extension size."
+-- "Component, 40 bytes: mark 43 50; u16 flags, ..; u16 id; u16 stripe count; u32 stripe size; i32 first target; u64
+-- begin; u64 end; u64 extension size."
 unfoldable pub fieldBytes : Component → List ℕ
 fieldBytes c =
     words 0x5043 (flagWord (c .init) (c .extension)) (c .id) (c .«stripe_count»)
@@ -36,7 +36,8 @@ fieldBytes c =
     ++ u32Bytes (bitsOf (c .«first_target»))
     ++ longs (c .begin) (c .end) (c .«extension_size»)
 
--- A component and behind it its object records: "If init, as many object records as the stripe count follow, in the same page."
+-- A component and behind it its object records: "If init, as many object records as the stripe count follow, in the
+-- same page."
 unfoldable pub componentBytes : Component → List ℕ
 componentBytes c = fieldBytes c ++ objectsBytes (recordsOf c)
 
@@ -49,8 +50,8 @@ componentsBytes (c ∷ cs) = componentBytes c ++ componentsBytes cs
 abbrev pub sizeOf : Component → ℕ
 sizeOf c = 40 + 16 * length (recordsOf c)
 
--- "Page head, 16 bytes: mark 50 48; u16 flags (bit 0 more, the rest 0); u16 page number from 0; u16 components in the page, at
--- least 1; u32 generation; four zero bytes."
+-- "Page head, 16 bytes: mark 50 48; u16 flags (bit 0 more, the rest 0); u16 page number from 0; u16 components in the
+-- page, at least 1; u32 generation; four zero bytes."
 unfoldable pub headBytes : Head → List ℕ
 headBytes h = words 0x4850 (flagWord (h .more) false) (h .number) (h .count) ++ u32Bytes (h .generation) ++ u32Bytes 0
 

@@ -1,5 +1,5 @@
--- What a page says: its head, and the components at their places. Decoding is total: it is defined on all bytes and at all places,
--- and means something where the page has its form.
+-- What a page says: its head, and the components at their places. Decoding is total: it is defined on all bytes and at
+-- all places, and means something where the page has its form.
 use Prim.Native.Nat.{ℕ, zero, suc, _+_, min}
 use mathlib.Core.List.{List, [], _∷_, map}
 use Rattle.bytes_le.specs.Numbers.{u16At, u32At, u64At, i32At}
@@ -19,9 +19,9 @@ abbrev pub objectsAt : ℕ → List ℕ → ℕ → List Object
 objectsAt zero s at = []
 objectsAt (suc n) s at = objectAt s at ∷ objectsAt n s (at + 16)
 
--- "Component, 40 bytes: ..; u16 flags, of which only bits 0 (init) and 1 (extension) may be set; u16 id; u16 stripe count; u32
--- stripe size; i32 first target; u64 begin; u64 end; u64 extension size." Of more than 16 object records the first 16 are kept; rule
--- 6 refuses such a component by its stripe count.
+-- "Component, 40 bytes: ..; u16 flags, of which only bits 0 (init) and 1 (extension) may be set; u16 id; u16 stripe
+-- count; u32 stripe size; i32 first target; u64 begin; u64 end; u64 extension size." Of more than 16 object records the
+-- first 16 are kept; rule 6 refuses such a component by its stripe count.
 unfoldable pub componentAt : List ℕ → ℕ → Component
 componentAt s at =
     record {
@@ -37,8 +37,8 @@ componentAt s at =
       objects = packObjects (objectsAt (min 16 (recordsAt s at)) s (at + 40));
     }
 
--- "Page head, 16 bytes: ..; u16 flags (bit 0 more, the rest 0); u16 page number from 0; u16 components in the page, ..; u32
--- generation"
+-- "Page head, 16 bytes: ..; u16 flags (bit 0 more, the rest 0); u16 page number from 0; u16 components in the page, ..;
+-- u32 generation"
 unfoldable pub headOf : List ℕ → Head
 headOf s = record { more = isSet 0 (u16At s 2); number = u16At s 4; count = counted s; generation = u32At s 8 }
 

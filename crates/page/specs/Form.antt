@@ -1,5 +1,5 @@
--- The form of a page (refusal 3), field by field as document 01's section "Pages" has it. A place is where a record begins in
--- the bytes. Bytes past the end of a list read as 0, and no record that reaches past the limit has its form.
+-- The form of a page (refusal 3), field by field as document 01's section "Pages" has it. A place is where a record
+-- begins in the bytes. Bytes past the end of a list read as 0, and no record that reaches past the limit has its form.
 use Prim.Native.Nat.{ℕ, zero, suc, _+_, _*_}
 use mathlib.Core.List.{List, [], _∷_}
 use mathlib.Core.Bool.{Bool, true, false, cond, _&&_}
@@ -73,7 +73,8 @@ pageEnd s = endFrom (counted s) s 16
 unfoldable pub formBy : ℕ → List ℕ → Bool
 formBy limit s = leb 16 limit && headForm s && componentsForm (counted s) limit s 16
 
--- The bytes are a page: "A page has 16 to 512 bytes and nothing after its last record." Where this fails, refusal 3 applies.
+-- The bytes are a page: "A page has 16 to 512 bytes and nothing after its last record." Where this fails, refusal 3
+-- applies.
 unfoldable pub pageForm : List ℕ → Bool
 pageForm s = leb (length s) 512 && formBy (length s) s && eqb (pageEnd s) (length s)
 
@@ -81,8 +82,8 @@ pageForm s = leb (length s) 512 && formBy (length s) s && eqb (pageEnd s) (lengt
 abbrev pub faulty : Walk
 faulty = record { ok = false; end = 0; places = replicate 16 0 }
 
--- What a walk over the page at the beginning of the bytes finds: whether it has its form, where it ends, and the places of its
--- components, packed into 16 places. (A page of at most 512 bytes has at most 12 components.)
+-- What a walk over the page at the beginning of the bytes finds: whether it has its form, where it ends, and the places
+-- of its components, packed into 16 places. (A page of at most 512 bytes has at most 12 components.)
 unfoldable pub walkOf : ℕ → List ℕ → Walk
 walkOf limit s =
     cond (formBy limit s)

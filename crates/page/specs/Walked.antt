@@ -8,7 +8,8 @@ use lib.ListN.{length, getD, take}
 use Rattle.page.specs.declared.Walk.{Walk}
 use Rattle.page.specs.Form.{counted, behind, walkOf, pageWalk}
 use Rattle.page.specs.Content.{componentAt, componentsOf}
-use Rattle.page.specs.FormLaws.{form-room, some-components, few-components, page-short, walk-form, walk-components, walk-within}
+use Rattle.page.specs.FormLaws.{form-room, some-components, few-components, page-short}
+use Rattle.page.specs.FormLaws.{walk-form, walk-components, walk-within}
 use Rattle.page.specs.FormLaws.{page-walk-page, page-walk-form, page-walk-components, page-walk-within}
 
 -- The bytes begin with a page of good form, and the walk has the places of its components.

@@ -6,7 +6,8 @@ use mathlib.Core.Bool.{true}
 use Rattle.bytes_le.specs.Numbers.{u16At, u32At, u64At, i32Of, u16Bytes, u32Bytes, u64Bytes, bitsOf}
 use Rattle.bytes_le.specs.Flags.{isSet, onlyFirst, flagWord}
 use Rattle.layout.specs.Records.{packObjects, packComponents, packed}
-use Rattle.layout.specs.Fields.{nonzeroMultiple, extensionOk, stripedOk, kindOk, isMinusOne, isTarget, firstTargetOk, fieldsOk}
+use Rattle.layout.specs.Fields.{nonzeroMultiple, extensionOk, stripedOk, kindOk}
+use Rattle.layout.specs.Fields.{isMinusOne, isTarget, firstTargetOk, fieldsOk}
 use Rattle.layout.specs.Neighbours.{neighboursHold}
 use Rattle.layout.specs.Distinct.{sameObject, distinctHold}
 use Rattle.layout.specs.Rules.{ruleBroken}

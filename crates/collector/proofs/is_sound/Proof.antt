@@ -30,7 +30,13 @@ returns-3 c =
     let b = c .before .before .before in
     let h : length (l .components) ≡ 16 = unmapped (l .components) _ (s .good .0 .1 .1 .1 .1 .0 .1 .1 .1 .1 .0 .1 .0 .1) in
     let n : length (gathered (s .args .c)) ≡ l .count = length-take-le (l .count) (l .components) (omega arith) in
-    rw (le-leb (l .count) 16 (omega arith), sym (b .counts-agree .ensures) ∙ not-false _ (c .before .before .if2 .left), eq-eqb _ _ n, ← c .rule-broken .ensures)
+    rw (
+      le-leb (l .count) 16 (omega arith),
+      sym (b .counts-agree .ensures) ∙ not-false _
+          (c .before .before .if2 .left),
+      eq-eqb _ _ n,
+      ← c .rule-broken .ensures,
+    )
 
 pub is-sound-spec : {M : Type 1} → statement M
 is-sound-spec = tie.close (tie.spec returns (λ c. search needs) returns-2 (λ c. search needs) returns-3)

@@ -12,14 +12,19 @@ returns : tie.Need-returns
 unfolding layoutOut
 returns c =
     let b = c .before .before in
-    rw (sym (b .is-sound .ensures) ∙ not-true _ (c .before .if1 .taken)) (ap (λ (l : Layout). record { refusal = 1; layout = l }) (c .no-layout .ensures))
+    rw (sym (b .is-sound .ensures) ∙ not-true _ (c .before .if1 .taken))
+    (ap (λ (l : Layout). record { refusal = 1; layout = l }) (c .no-layout .ensures))
 
 returns-2 : tie.Need-returns-2
 unfolding layoutOut
 returns-2 c =
     let b = c .before .before .before .before in
     let a = b .before .args .c in
-    rw (sym (b .is-sound .ensures) ∙ not-false _ (c .before .before .before .if1 .left), not-true (a .complete) (c .before .if2 .taken))
+    rw (
+      sym (b .is-sound .ensures) ∙ not-false _ (c .before .before .before .if1 .left),
+      not-true (a .complete)
+          (c .before .if2 .taken),
+    )
     (ap (λ (l : Layout). record { refusal = 1; layout = l }) (c .no-layout2 .ensures))
 
 layout-in-requires : tie.Need-layout-in-requires
@@ -32,7 +37,11 @@ unfolding layoutOut
 returns-3 c =
     let b = c .before .before .before .before in
     let a = b .before .args .c in
-    rw (sym (b .is-sound .ensures) ∙ not-false _ (c .before .before .before .if1 .left), not-false (a .complete) (c .before .if2 .left))
+    rw (
+      sym (b .is-sound .ensures) ∙ not-false _ (c .before .before .before .if1 .left),
+      not-false (a .complete)
+          (c .before .if2 .left),
+    )
     (ap (λ (l : Layout). record { refusal = 0; layout = l }) (c .layout-in .ensures))
 
 pub layout-of-spec : {M : Type 1} → statement M

@@ -31,15 +31,20 @@ returns-2 c =
     let a = b .before .before .before .args in
     let s = now (a .page) in
     c .refused2 .ensures (headOf s) (componentsOf s)
-    ∙ sym (ap (λ (k : ℕ). settled k (a .c) (headOf s) (componentsOf s)) (refused-3 (a .c) s (b .before .if1 .left) (sym (found-ok b) ∙ not-true (b .walk-page .result .ok) (c .before .if2 .taken))))
+    ∙ sym (ap (λ (k : ℕ). settled k (a .c) (headOf s) (componentsOf s))
+    (refused-3 (a .c) s (b .before .if1 .left) (sym (found-ok b) ∙ not-true (b .walk-page .result .ok) (c .before .if2 .taken))))
 
 take-walked-requires : tie.Need-take-walked-requires
 take-walked-requires c κs =
     let b = c .before .before in
     let s = b .before .before .before in
     let p = now (s .args .page) in
-    let ok = ap (λ (w : Walk). w .ok) (b .walk-page .ensures) in
-    (s .pre, b .before .if1 .left, rw (b .walk-page .ensures) (walked-page p (sym ok ∙ not-false (b .walk-page .result .ok) (c .if2 .left))))
+    let ok = ap (λ (w : Walk). w .ok) (b .walk-page .ensures) in (
+      s .pre,
+      b .before .if1 .left,
+      rw (b .walk-page .ensures)
+          (walked-page p (sym ok ∙ not-false (b .walk-page .result .ok) (c .if2 .left))),
+    )
 
 returns-3 : tie.Need-returns-3
 returns-3 c =
@@ -47,7 +52,9 @@ returns-3 c =
     let a = b .before .before .before .args in
     let s = now (a .page) in
     c .take-walked .ensures
-    ∙ sym (ap (λ (k : ℕ). settled k (a .c) (headOf s) (componentsOf s)) (refused-content (a .c) s (b .before .if1 .left) (sym (found-ok b) ∙ not-false (b .walk-page .result .ok) (c .before .if2 .left))))
+    ∙ sym (ap (λ (k : ℕ). settled k (a .c) (headOf s) (componentsOf s))
+    (refused-content (a .c) s (b .before .if1 .left) (sym (found-ok b) ∙ not-false (b .walk-page .result .ok)
+    (c .before .if2 .left))))
 
 pub take-next-spec : {M : Type 1} → statement M
 take-next-spec = tie.close (tie.spec (λ c. search needs) returns (λ c. search needs) (λ c. search needs) returns-2 take-walked-requires returns-3)

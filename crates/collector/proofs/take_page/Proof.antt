@@ -16,7 +16,8 @@ returns c =
     let a = b .before .before .args in
     let s = now (a .page) in
     c .refused .ensures (headOf s) (componentsOf s)
-    ∙ sym (ap (λ (k : ℕ). settled k (a .c) (headOf s) (componentsOf s)) (refused-1 (a .c) s (sym (b .is-sound .ensures) ∙ not-true _ (c .before .if1 .taken))))
+    ∙ sym (ap (λ (k : ℕ). settled k (a .c) (headOf s) (componentsOf s))
+    (refused-1 (a .c) s (sym (b .is-sound .ensures) ∙ not-true _ (c .before .if1 .taken))))
 
 take-next-requires : tie.Need-take-next-requires
 take-next-requires c κs = sym (c .before .is-sound .ensures) ∙ not-false _ (c .if1 .left)
@@ -27,7 +28,8 @@ returns-2 c =
     let a = b .before .before .args in
     let s = now (a .page) in
     c .take-next .ensures
-    ∙ sym (ap (λ (k : ℕ). settled k (a .c) (headOf s) (componentsOf s)) (refused-open (a .c) s (sym (b .is-sound .ensures) ∙ not-false _ (c .before .if1 .left))))
+    ∙ sym (ap (λ (k : ℕ). settled k (a .c) (headOf s) (componentsOf s))
+    (refused-open (a .c) s (sym (b .is-sound .ensures) ∙ not-false _ (c .before .if1 .left))))
 
 pub take-page-spec : {M : Type 1} → statement M
 take-page-spec = tie.close (tie.spec (λ c. search needs) (λ c. search needs) returns take-next-requires returns-2)

@@ -38,7 +38,8 @@ built : (c : tie.After-with-components) → (let a = c .before .before .before .
 built c =
     let h = c .before .before .before .before .before .before .before in
     let s = h .before .before in
-    next-is (now (s .args .s)) (s .args .w) (h .head-of .result) (s .args .c .layout) (c .with-components .result) (s .pre .2) (h .head-of .ensures) (c .with-components .ensures)
+    next-is (now (s .args .s)) (s .args .w) (h .head-of .result) (s .args .c .layout) (c .with-components .result)
+    (s .pre .2) (h .head-of .ensures) (c .with-components .ensures)
 
 -- Its first components break no rule with pages outstanding.
 kept : (c : tie.After-with-components) → (let a = c .before .before .before .before .before .before .before .before .before .args in
@@ -50,7 +51,8 @@ kept c =
     let cs = componentsOf (now (s .args .s)) in
     let n = count-is (now (s .args .s)) (h .head-of .result) (h .head-of .ensures) in
     let k : length (l .components) ≡ 16 = unmapped (l .components) _ (s .good .0 .1 .1 .1 .1 .0 .1 .1 .1 .1 .0 .1 .0 .1) in
-    rw (built c) (kept-joined (s .args .c) (headOf (now (s .args .s)) .generation) cs k (sound-facts (s .args .c) (s .pre .0)) (s .pre .1) (omega arith))
+    rw (built c) (kept-joined (s .args .c) (headOf (now (s .args .s)) .generation) cs k
+    (sound-facts (s .args .c) (s .pre .0)) (s .pre .1) (omega arith))
 
 -- The number that is given is that of the rule which the components break, or 0.
 number : (c : tie.After-rule-broken-from) → (let a = c .before .before .before .before .before .before .before .before .before .before .args in
@@ -71,7 +73,8 @@ number c =
     let m : h .head-of .result .more ≡ headOf p .more = ap (λ (x : Head). x .more) (h .head-of .ensures) in
     let r : c .rule-broken-from .result ≡ ruleBroken (h .head-of .result .more) (view (b .with-components .result)) =
     c .rule-broken-from .ensures in
-    refused-rule (a .c) (headOf p) cs (is-next (b .before .before .before .before .before) (b .before .before .before .before .if1 .left)) (omega arith)
+    refused-rule (a .c) (headOf p) cs (is-next (b .before .before .before .before .before)
+    (b .before .before .before .before .if1 .left)) (omega arith)
     ∙ sym (r ∙ ap₂ ruleBroken m v)
 
 returns : tie.Need-returns
@@ -103,7 +106,8 @@ returns-2 c =
     let s = now (a .s) in
     let m = count-is s (h .head-of .result) (h .head-of .ensures) in
     c .refused2 .ensures (headOf s) (componentsOf s)
-    ∙ sym (ap (λ (k : ℕ). settled k (a .c) (headOf s) (componentsOf s)) (refused-5 (a .c) (headOf s) (componentsOf s) (is-next n (b .before .if1 .left)) (omega arith)))
+    ∙ sym (ap (λ (k : ℕ). settled k (a .c) (headOf s) (componentsOf s))
+    (refused-5 (a .c) (headOf s) (componentsOf s) (is-next n (b .before .if1 .left)) (omega arith)))
 
 with-components-requires : tie.Need-with-components-requires
 with-components-requires c κs =

@@ -16,7 +16,8 @@ use Rattle.collector.proofs.with_components.Tie as tie
 abbrev Inv-loop : tie.InvT-loop
 Inv-loop generation s n places out₀ from i₀ out i =
     (i ≤ n)
-    × (sets (out₀ .components) from (map (componentAt s) (take n places)) ≡ sets (out .components) (from + i) (map (componentAt s) (slice i n places)))
+    × (sets (out₀ .components) from (map (componentAt s) (take n places)) ≡ sets (out .components) (from + i)
+    (map (componentAt s) (slice i n places)))
 
 abbrev μ-loop : tie.MeasureT-loop
 μ-loop generation s n places out₀ from i₀ out i = n - i
@@ -33,8 +34,11 @@ loop-again c =
     let a = p .before .before .args in
     let i = p .loop .i in
     let f = componentAt (now (a .s)) in
-    let e = slice-next (a .t4) (a .n) i 0 (c .before .loop-test .taken) (omega arith) in
-    (omega arith, p .loop .inv .1 ∙ rw (e, ← c .component-at .ensures) (sets-next (p .loop .out .components) (a .l .count) i (c .component-at .result) (map f (slice (i + 1) (a .n) (a .t4)))))
+    let e = slice-next (a .t4) (a .n) i 0 (c .before .loop-test .taken) (omega arith) in (
+      omega arith,
+      p .loop .inv .1 ∙ rw (e, ← c .component-at .ensures)
+          (sets-next (p .loop .out .components) (a .l .count) i (c .component-at .result) (map f (slice (i + 1) (a .n) (a .t4)))),
+    )
 
 returns : tie.Need-returns Inv-loop μ-loop
 returns c =

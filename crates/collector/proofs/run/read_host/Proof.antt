@@ -46,7 +46,8 @@ returns c =
     let s = drop (l .loop .at) t in
     let n = length-drop (l .loop .at) t in
     c .refused-at .ensures
-    ∙ sym (l .loop .inv .2 ∙ read-ended p (l .loop .inv .1) hostCut s (not-true (p .complete) (c .before .before .if1 .taken)) (host-ended s (omega arith)))
+    ∙ sym (l .loop .inv .2 ∙ read-ended p (l .loop .inv .1) hostCut s
+    (not-true (p .complete) (c .before .before .if1 .taken)) (host-ended s (omega arith)))
 
 walk-requires : tie.Need-walk-requires Inv-loop μ-loop
 walk-requires c κs =
@@ -82,7 +83,9 @@ returns-2 c =
     let s = drop (l .loop .at) t in
     let n = length-drop (l .loop .at) t in
     c .refused-at2 .ensures
-    ∙ sym (l .loop .inv .2 ∙ host-fault s (omega arith) p (l .loop .inv .1) (not-true (p .complete) (w .before .before .before .before .if1 .taken)) (sym (form-is w) ∙ not-true (w .walk .result .ok) (c .before .if3 .taken)))
+    ∙ sym (l .loop .inv .2 ∙ host-fault s (omega arith) p (l .loop .inv .1)
+    (not-true (p .complete) (w .before .before .before .before .if1 .taken))
+    (sym (form-is w) ∙ not-true (w .walk .result .ok) (c .before .if3 .taken)))
 
 take-walked-requires : tie.Need-take-walked-requires Inv-loop μ-loop
 take-walked-requires c κs =
@@ -91,17 +94,20 @@ take-walked-requires c κs =
     let p = l .loop .c in
     let t = now (l .before .before .before .args .s) in
     let s = drop (l .loop .at) t in
-    let ok : walkOf (min 512 (length s)) s .ok ≡ true = sym (ap (λ (x : Walk). x .ok) (walk-is w)) ∙ not-false (w .walk .result .ok) (c .if3 .left) in (
+    let ok : walkOf (min 512 (length s)) s .ok ≡ true = sym (ap (λ (x : Walk). x .ok) (walk-is w)) ∙ not-false
+    (w .walk .result .ok) (c .if3 .left) in (
       facts-sound p (l .loop .inv .1 .sound),
       not-true (p .complete) (w .before .before .before .before .if1 .taken),
-      rw (part-rest t (l .loop .at), walk-is w) (walked-first (min 512 (length s)) s (min-le-right 512 (length s)) (min-le-left 512 (length s)) ok),
+      rw (part-rest t (l .loop .at), walk-is w) (walked-first (min 512 (length s)) s (min-le-right 512 (length s))
+          (min-le-left 512 (length s)) ok),
     )
 
 -- The page that was taken, and where it ends.
 taken-is : (c : tie.After-take-walked Inv-loop μ-loop) → (let w = c .before .before .before in
     let l = w .before .before .before .before .before .before in
     let s = drop (l .loop .at) (now (l .before .before .before .args .s)) in
-    (formBy (min 512 (length s)) s ≡ true) × (w .walk .result .end ≡ pageEnd s) × (c .take-walked .result ≡ openIn (l .loop .c) (take (pageEnd s) s)))
+    (formBy (min 512 (length s)) s ≡ true) × (w .walk .result .end ≡ pageEnd s) ×
+    (c .take-walked .result ≡ openIn (l .loop .c) (take (pageEnd s) s)))
 taken-is c =
     let w = c .before .before .before in
     let l = w .before .before .before .before .before .before in
@@ -114,7 +120,8 @@ taken-is c =
     let e = not-true (p .complete) (w .before .before .before .before .if1 .taken) in (
       f,
       ap (λ (x : Walk). x .end) (walk-is w) ∙ walk-end (min 512 (length s)) s (walk-ok _ _ ∙ f),
-      c .take-walked .ensures ∙ ap (λ (x : List ℕ). contentIn p (headOf x) (componentsOf x)) (part-rest t (l .loop .at)) ∙ sym (host-content s (omega arith) f p e),
+      c .take-walked .ensures ∙ ap (λ (x : List ℕ). contentIn p (headOf x) (componentsOf x))
+          (part-rest t (l .loop .at)) ∙ sym (host-content s (omega arith) f p e),
     )
 
 returns-3 : tie.Need-returns-3 Inv-loop μ-loop
@@ -130,7 +137,9 @@ returns-3 c =
     let k : numberOf (openIn p (take (pageEnd s) s) .answer) ≡ c .before .before .number-of .result =
     sym (c .before .before .number-of .ensures ∙ ap (λ (r : Taken). numberOf (r .answer)) (x .2)) in
     c .refused-at3 .ensures
-    ∙ sym (l .loop .inv .2 ∙ read-refused p (l .loop .inv .1) hostCut s (not-true (p .complete) (w .before .before .before .before .if1 .taken)) (take (pageEnd s) s) (drop (pageEnd s) s) (host-page s (omega arith) (x .0)) (c .before .before .number-of .result) k (omega arith))
+    ∙ sym (l .loop .inv .2 ∙ read-refused p (l .loop .inv .1) hostCut s
+    (not-true (p .complete) (w .before .before .before .before .if1 .taken)) (take (pageEnd s) s) (drop (pageEnd s) s)
+    (host-page s (omega arith) (x .0)) (c .before .before .number-of .result) k (omega arith))
 
 -- The position behind the page: past `at`, and not past the end.
 moves : (c : tie.After-take-walked Inv-loop μ-loop) → (let w = c .before .before .before in
@@ -166,10 +175,13 @@ loop-again c =
     let k : numberOf (openIn p u .answer) ≡ 0 =
     sym (c .before .before .before .number-of .ensures ∙ ap (λ (r : Taken). numberOf (r .answer)) (x .2)) ∙ omega arith in
     let e : openIn p u .collector ≡ q .take-walked .result .collector = sym (ap (λ (r : Taken). r .collector) (x .2)) in
-    let d : drop (pageEnd s) s ≡ drop (l .loop .at + w .walk .result .end) t = rw (x .1) (drop-drop (pageEnd s) (l .loop .at) t) in (
+    let d : drop (pageEnd s) s ≡ drop (l .loop .at + w .walk .result .end) t = rw (x .1)
+    (drop-drop (pageEnd s) (l .loop .at) t) in (
       moves q .1,
       subst Held e (taken-held p (l .loop .inv .1) u k),
-      l .loop .inv .2 ∙ read-taken p (l .loop .inv .1) hostCut s (not-true (p .complete) (w .before .before .before .before .if1 .taken)) u (drop (pageEnd s) s) (host-page s (omega arith) (x .0)) k
+      l .loop .inv .2 ∙ read-taken p (l .loop .inv .1) hostCut s
+          (not-true (p .complete) (w .before .before .before .before .if1 .taken)) u (drop (pageEnd s) s)
+          (host-page s (omega arith) (x .0)) k
           ∙ ap₂ (readFrom hostCut) e d,
     )
 
@@ -181,7 +193,8 @@ returns-4 c =
     let s = drop (l .loop .at) t in
     let n = length-drop (l .loop .at) t in
     c .refused-at4 .ensures
-    ∙ sym (l .loop .inv .2 ∙ read-closed p (l .loop .inv .1) hostCut s (not-false (p .complete) (c .before .before .if1 .left)) ∙ closed-more p s (omega arith))
+    ∙ sym (l .loop .inv .2 ∙ read-closed p (l .loop .inv .1) hostCut s
+    (not-false (p .complete) (c .before .before .if1 .left)) ∙ closed-more p s (omega arith))
 
 finished-requires : tie.Need-finished-requires Inv-loop μ-loop
 finished-requires c κs = c .before .before .before .loop .inv .1 .sound .few
@@ -194,7 +207,8 @@ returns-5 c =
     let s = drop (l .loop .at) t in
     let n = length-drop (l .loop .at) t in
     c .finished .ensures
-    ∙ sym (l .loop .inv .2 ∙ read-closed p (l .loop .inv .1) hostCut s (not-false (p .complete) (c .before .before .if1 .left)) ∙ closed-none p s (omega arith))
+    ∙ sym (l .loop .inv .2 ∙ read-closed p (l .loop .inv .1) hostCut s
+    (not-false (p .complete) (c .before .before .if1 .left)) ∙ closed-none p s (omega arith))
 
 pub read-host-spec : {M : Type 1} → statement M
 read-host-spec = tie.close (tie.spec Inv-loop μ-loop (λ c κs. search needs) loop-holds (λ c κs. search needs) returns (λ c. search needs) (λ c. search needs) (λ c. search needs) (λ c κs. search needs) walk-requires (λ c κs. search needs) returns-2 take-walked-requires (λ c κs. search needs) (λ c κs. search needs) returns-3 add-at loop-less loop-again (λ c κs. search needs) returns-4 finished-requires returns-5)

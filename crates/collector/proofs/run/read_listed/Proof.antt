@@ -37,7 +37,8 @@ returns c =
     let s = drop (l .loop .at) (now (l .before .before .before .args .s)) in
     let n = length-drop (l .loop .at) (now (l .before .before .before .args .s)) in
     c .refused-at .ensures
-    ∙ sym (l .loop .inv .2 ∙ read-ended p (l .loop .inv .1) listedCut s (not-true (p .complete) (c .before .before .if1 .taken)) (listed-ended s (omega arith)))
+    ∙ sym (l .loop .inv .2 ∙ read-ended p (l .loop .inv .1) listedCut s
+    (not-true (p .complete) (c .before .before .if1 .taken)) (listed-ended s (omega arith)))
 
 returns-2 : tie.Need-returns-2 Inv-loop μ-loop
 returns-2 c =
@@ -46,7 +47,8 @@ returns-2 c =
     let s = drop (l .loop .at) (now (l .before .before .before .args .s)) in
     let n = length-drop (l .loop .at) (now (l .before .before .before .args .s)) in
     c .refused-at2 .ensures
-    ∙ sym (l .loop .inv .2 ∙ read-broken p (l .loop .inv .1) listedCut s (not-true (p .complete) (c .before .before .before .if1 .taken)) (listed-cut s (omega arith) (omega arith)))
+    ∙ sym (l .loop .inv .2 ∙ read-broken p (l .loop .inv .1) listedCut s
+    (not-true (p .complete) (c .before .before .before .if1 .taken)) (listed-cut s (omega arith) (omega arith)))
 
 returns-3 : tie.Need-returns-3 Inv-loop μ-loop
 returns-3 c =
@@ -58,7 +60,8 @@ returns-3 c =
     let n = length-drop (l .loop .at) t in
     let k : u .u16-at .result ≡ u16At s 0 = u .u16-at .ensures ∙ sym (length-at t (l .loop .at)) in
     c .refused-at3 .ensures
-    ∙ sym (l .loop .inv .2 ∙ read-broken p (l .loop .inv .1) listedCut s (not-true (p .complete) (u .before .before .before .if1 .taken)) (listed-long s (omega arith) (omega arith) (omega arith)))
+    ∙ sym (l .loop .inv .2 ∙ read-broken p (l .loop .inv .1) listedCut s
+    (not-true (p .complete) (u .before .before .before .if1 .taken)) (listed-long s (omega arith) (omega arith) (omega arith)))
 
 returns-4 : tie.Need-returns-4 Inv-loop μ-loop
 returns-4 c =
@@ -70,7 +73,9 @@ returns-4 c =
     let n = length-drop (l .loop .at) t in
     let k : u .u16-at .result ≡ u16At s 0 = u .u16-at .ensures ∙ sym (length-at t (l .loop .at)) in
     c .refused-at4 .ensures
-    ∙ sym (l .loop .inv .2 ∙ read-broken p (l .loop .inv .1) listedCut s (not-true (p .complete) (u .before .before .before .if1 .taken)) (listed-short s (omega arith) (omega arith) (omega arith) (omega arith)))
+    ∙ sym (l .loop .inv .2 ∙ read-broken p (l .loop .inv .1) listedCut s
+    (not-true (p .complete) (u .before .before .before .if1 .taken))
+    (listed-short s (omega arith) (omega arith) (omega arith) (omega arith)))
 
 take-next-requires : tie.Need-take-next-requires Inv-loop μ-loop
 take-next-requires c κs =
@@ -85,7 +90,8 @@ Cut c =
     let t = now (l .before .before .before .args .s) in
     let from = l .loop .at + 2 in
     let p = take (u .u16-at .result) (drop from t) in
-    (c .take-next .result ≡ openIn (l .loop .c) p) × (listedCut (drop (l .loop .at) t) ≡ next p (drop (from + u .u16-at .result) t))
+    (c .take-next .result ≡ openIn (l .loop .c) p) × (listedCut (drop (l .loop .at) t) ≡ next p
+    (drop (from + u .u16-at .result) t))
 
 cut-is : (c : tie.After-take-next Inv-loop μ-loop) → Cut c
 cut-is c =
@@ -112,7 +118,9 @@ returns-5 c =
     let k : numberOf (openIn (l .loop .c) (take n (drop from t)) .answer) ≡ c .before .before .number-of .result =
     sym (c .before .before .number-of .ensures ∙ ap (λ (r : Taken). numberOf (r .answer)) (x .0)) in
     c .refused-at5 .ensures
-    ∙ sym (l .loop .inv .2 ∙ read-refused (l .loop .c) (l .loop .inv .1) listedCut (drop (l .loop .at) t) (not-true (l .loop .c .complete) (u .before .before .before .if1 .taken)) (take n (drop from t)) (drop (from + n) t) (x .1) (c .before .before .number-of .result) k (omega arith))
+    ∙ sym (l .loop .inv .2 ∙ read-refused (l .loop .c) (l .loop .inv .1) listedCut (drop (l .loop .at) t)
+    (not-true (l .loop .c .complete) (u .before .before .before .if1 .taken)) (take n (drop from t)) (drop (from + n) t)
+    (x .1) (c .before .before .number-of .result) k (omega arith))
 
 loop-again : tie.Need-loop-again Inv-loop μ-loop
 loop-again c =
@@ -126,10 +134,12 @@ loop-again c =
     let x = cut-is q in
     let k : numberOf (openIn (l .loop .c) p .answer) ≡ 0 =
     sym (c .before .before .number-of .ensures ∙ ap (λ (r : Taken). numberOf (r .answer)) (x .0)) ∙ omega arith in
-    let e : openIn (l .loop .c) p .collector ≡ q .take-next .result .collector = sym (ap (λ (r : Taken). r .collector) (x .0)) in (
+    let e : openIn (l .loop .c) p .collector ≡ q .take-next .result .collector = sym
+    (ap (λ (r : Taken). r .collector) (x .0)) in (
       omega arith,
       subst Held e (taken-held (l .loop .c) (l .loop .inv .1) p k),
-      l .loop .inv .2 ∙ read-taken (l .loop .c) (l .loop .inv .1) listedCut (drop (l .loop .at) t) (not-true (l .loop .c .complete) (u .before .before .before .if1 .taken)) p (drop (from + n) t) (x .1) k
+      l .loop .inv .2 ∙ read-taken (l .loop .c) (l .loop .inv .1) listedCut (drop (l .loop .at) t)
+          (not-true (l .loop .c .complete) (u .before .before .before .if1 .taken)) p (drop (from + n) t) (x .1) k
           ∙ ap (λ (y : Collector). readFrom listedCut y (drop (from + n) t)) e,
     )
 
@@ -141,7 +151,8 @@ returns-6 c =
     let s = drop (l .loop .at) t in
     let n = length-drop (l .loop .at) t in
     c .refused-at6 .ensures
-    ∙ sym (l .loop .inv .2 ∙ read-closed p (l .loop .inv .1) listedCut s (not-false (p .complete) (c .before .before .if1 .left)) ∙ closed-more p s (omega arith))
+    ∙ sym (l .loop .inv .2 ∙ read-closed p (l .loop .inv .1) listedCut s
+    (not-false (p .complete) (c .before .before .if1 .left)) ∙ closed-more p s (omega arith))
 
 finished-requires : tie.Need-finished-requires Inv-loop μ-loop
 finished-requires c κs = c .before .before .before .loop .inv .1 .sound .few
@@ -154,7 +165,8 @@ returns-7 c =
     let s = drop (l .loop .at) t in
     let n = length-drop (l .loop .at) t in
     c .finished .ensures
-    ∙ sym (l .loop .inv .2 ∙ read-closed p (l .loop .inv .1) listedCut s (not-false (p .complete) (c .before .before .if1 .left)) ∙ closed-none p s (omega arith))
+    ∙ sym (l .loop .inv .2 ∙ read-closed p (l .loop .inv .1) listedCut s
+    (not-false (p .complete) (c .before .before .if1 .left)) ∙ closed-none p s (omega arith))
 
 pub read-listed-spec : {M : Type 1} → statement M
 read-listed-spec = tie.close (tie.spec Inv-loop μ-loop (λ c κs. search needs) loop-holds (λ c κs. search needs) returns (λ c. search needs) (λ c κs. search needs) returns-2 (λ c κs. search needs) (λ c. search needs) (λ c κs. search needs) returns-3 (λ c. search needs) (λ c. search needs) (λ c κs. search needs) returns-4 (λ c. search needs) (λ c. search needs) (λ c. search needs) (λ c. search needs) take-next-requires (λ c κs. search needs) (λ c κs. search needs) returns-5 (λ c. search needs) loop-again (λ c κs. search needs) returns-6 finished-requires returns-7)

@@ -1,7 +1,6 @@
 -- The masks of a flag word: one for each bit, and one for all the bits from some bit on.
 use Prim.Native.Nat.{ℕ, zero, suc, _+_, _-_, _*_, _^_, _/_, _%_, _<_}
-use mathlib.Core.Path.{_≡_, refl, sym}
-use mathlib.Core.Bool.{Bool, true, false}
+use mathlib.Core.Path.{_≡_, refl}
 use native.Mathlib.Omega.{arith}
 use native.Mathlib.Nat.{mod-lt, div-eq-of-lt, pow-suc}
 use native.Mathlib.Numerals.{one-add}
@@ -9,13 +8,8 @@ use lib.Dec.{eqb, ltb}
 use lib.Bits.{bitAnd, and-high}
 use lib.Pow.{pow-pos, shr-mod, split}
 use borrow.Author.Tests.{eqb-true, eq-eqb, ltb-true, lt-ltb}
+use Rattle.lists.specs.Bools.{same-test}
 use Rattle.bytes_le.specs.Flags.{isSet, onlyFirst}
-
--- Two tests are the same if each passes where the other does.
-same-test : (p q : Bool) → (p ≡ true → q ≡ true) → (q ≡ true → p ≡ true) → p ≡ q
-same-test true q f g = sym (f refl)
-same-test false true f g = g refl
-same-test false false f g = refl
 
 -- A product by a positive number is that number exactly if the other factor is 1.
 times-one : (b p : ℕ) → 0 < p → b * p ≡ p → b ≡ 1

@@ -1,4 +1,4 @@
--- The layout with a page's components, as it is built from the places of a walk. Assumes nothing.
+-- The layout with a page's components, as it is built from the places of a walk.
 use Prim.Native.Nat.{ℕ}
 use mathlib.Core.Path.{_≡_, refl, sym, ap, _∙_}
 use mathlib.Core.List.{List, map}

@@ -22,7 +22,7 @@ use Rattle.collector.specs.TakingLaws.{settled-number, refused-3, refuse
 use Rattle.collector.specs.RunLaws.{Held, readFrom, read-broken, read-refused}
 use Rattle.collector.specs.Runs.{ended, broken, next, refusedAt, listedCut, hostCut}
 
--- Nothing stands behind the last byte.
+-- No bytes are left.
 pub listed-ended : (s : List ℕ) → length s ≡ 0 → listedCut s ≡ ended
 unfolding listedCut
 listed-ended s e = rw (eq-eqb (length s) 0 e)
@@ -69,7 +69,7 @@ listed-next-at s at h k l =
     listed-next (drop at s) (omega arith) (omega arith) (omega arith) (omega arith)
     ∙ rw (n, drop-drop 2 at s, drop-drop (2 + u16At s at) at s, e)
 
--- Nothing stands behind the last byte.
+-- No bytes are left.
 pub host-ended : (s : List ℕ) → length s ≡ 0 → hostCut s ≡ ended
 unfolding hostCut
 host-ended s e = rw (eq-eqb (length s) 0 e)

@@ -1,13 +1,13 @@
 -- Laws of reading a run, for a collector that keeps the rules: what the reading is by what stands next.
-use Prim.Native.Nat.{ℕ, suc, _+_, _-_, _≤_, _<_}
+use Prim.Native.Nat.{ℕ, zero, suc, _+_, _-_, _≤_, _<_}
 use mathlib.Core.Path.{_≡_, refl, sym, ap, subst, _∙_}
 use mathlib.Core.List.{List, [], _∷_}
-use mathlib.Core.Bool.{true, false}
+use mathlib.Core.Bool.{Bool, true, false, cond}
 use native.Mathlib.Omega.{arith}
 use lib.Dec.{eqb}
 use lib.ListN.{length}
 use lib.Seq.{length-sets}
-use borrow.Author.Tests.{eq-eqb, ne-eqb}
+use borrow.Author.Tests.{eqb-true, eq-eqb, ne-eqb}
 use Rattle.lists.specs.Bools.{bool-cases}
 use Rattle.layout.specs.Records.{packComponents}
 use Rattle.layout.specs.Neighbours.{neighboursHold}
@@ -107,6 +107,32 @@ module _ (c : Collector) (h : Held c) where
             let l : 16 - c .pages ≡ 17 - openIn c p .collector .pages = omega (arith, taken-pages p f) in
             read-next ∙ ap (following (readOn cut (16 - c .pages)) c) n
             ∙ rw (page-open p, x) (ap (λ (m : ℕ). readOn cut m (openIn c p .collector) rest) l)
+
+-- The pages that may still come, n of them, never run out before the collector is complete or a page is refused.
+module _ (cut : List ℕ → Next) where
+  on-enough : (n : ℕ) → ((d : Collector) (t : List ℕ) → Held d → 17 ≤ n + d .pages → readOn cut n d t ≡ readFrom cut d t)
+      → (c : Collector) → Held c → 17 ≤ suc n + c .pages → (x : Next)
+      → following (readOn cut n) c x ≡ following (readOn cut (16 - c .pages)) c x
+  on-enough n ih c h k ended = refl
+  on-enough n ih c h k broken = refl
+  on-enough n ih c h k (next p rest) =
+      let m = numberOf (openIn c p .answer) in
+      let d = openIn c p .collector in
+      rw (page-open c h p)
+      (bool-cases (eqb m 0)
+      (λ e. let z : m ≡ 0 = eqb-true m 0 e in
+      let q = taken-pages c h p z in
+      let l : 17 - d .pages ≡ 16 - c .pages = omega arith in
+      rw e (ih d rest (taken-held c h p z) (omega arith) ∙ ap (λ (j : ℕ). readOn cut j d rest) l))
+      (λ e. rw e))
+
+  pub read-enough : (n : ℕ) (c : Collector) (s : List ℕ) → Held c → 17 ≤ n + c .pages → readOn cut n c s ≡ readFrom cut c s
+  read-enough zero c s h k = absurd (omega (arith, h .sound .within, h .sound .few))
+  read-enough (suc n) c s h k =
+      let by : Bool → Reading = λ b. cond b (closed c s) (following (readOn cut n) c (cut s)) in
+      bool-cases (c .complete)
+      (λ e. ap by e ∙ sym (read-closed c h cut s e))
+      (λ e. ap by e ∙ on-enough n (read-enough n) c h k (cut s) ∙ sym (read-next c h cut s e))
 
 -- Bytes behind the last page.
 pub closed-more : (c : Collector) (s : List ℕ) → 0 < length s → closed c s ≡ refusedAt 2 (c .pages)

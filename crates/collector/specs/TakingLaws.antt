@@ -71,7 +71,7 @@ module _ (c : Collector) (s : List ℕ) where
   unfolding openRefusal
   refused-content e f = rw (e, f)
 
-  -- 1 where it does not.
+  -- A page is refused by 1 where the collector breaks the rules, and else by what a collector that keeps them gives.
   pub refused-1 : collectorOk c ≡ false → pageRefusal c s ≡ 1
   unfolding pageRefusal
   refused-1 e = rw e

@@ -199,7 +199,7 @@ pub fn take_page(c: Collector, page: &[u8]) -> Taken
     take_next(c, page)
 }
 
-// The layout of a collector that is known to keep the rules and to be complete.
+// The layout of the gathered components.
 fn layout_in(c: Collector) -> Layout
     requires { ⌜ c .layout .count ≤ 16 ⌝ }
     ensures { λ r. ⌜ r ≡ packed (c .layout .generation) (gathered c) ⌝ }
@@ -213,14 +213,8 @@ fn layout_in(c: Collector) -> Layout
 pub fn layout_of(c: Collector) -> LayoutOut
     ensures { λ r. ⌜ r ≡ layoutOut c ⌝ }
 {
-    if !is_sound(c) {
-        let layout = layout::no_layout();
-        return LayoutOut {
-            refusal: 1,
-            layout: layout,
-        };
-    }
-    if !c.complete {
+    let ready = is_sound(c) & c.complete;
+    if !ready {
         let layout = layout::no_layout();
         return LayoutOut {
             refusal: 1,

@@ -48,3 +48,9 @@ beq-true false false e = refl
 pub true-beq : (b : Bool) → Bool·beq b b ≡ true
 true-beq true = refl
 true-beq false = refl
+
+-- Two tests are the same test if each passes where the other does.
+pub same-test : (a b : Bool) → (a ≡ true → b ≡ true) → (b ≡ true → a ≡ true) → a ≡ b
+same-test true b f g = sym (f refl)
+same-test false true f g = g refl
+same-test false false f g = refl

@@ -8,10 +8,10 @@ use native.Mathlib.Numerals.{add-one}
 use lib.ListN.{length, replicate, set}
 use lib.Seq.{sets}
 use borrow.Author.Tests.{le-leb, lt-leb, eq-eqb, ne-eqb}
-use Rattle.lists.specs.Bools.{bool-cases}
 use Rattle.page.specs.declared.Walk.{Walk}
 use Rattle.page.specs.Form.{objectsForm, componentMarks, recordsAt, behind, componentForm, componentsForm, placesFrom}
 use Rattle.page.specs.Form.{endFrom, headForm, counted, pageEnd, formBy, pageForm, faulty, walkOf, pageWalk}
+use Rattle.page.specs.FormLaws.{walk-ok, walk-end}
 use Rattle.page.proofs.Turns.{turn, done}
 
 -- What a walk finds that has stored i places and has n components to walk over, the first of them at a place.
@@ -52,10 +52,6 @@ module _ (limit : ℕ) (s : List ℕ) (at : ℕ) where
       unfolding componentForm
       objects-wrong f = rw (le-leb (behind s at) limit h, e, f)
 
-      pub component-right : objectsForm (recordsAt s at) s (at + 40) ≡ true → componentForm limit s at ≡ true
-      unfolding componentForm
-      component-right f = rw (le-leb (behind s at) limit h, e, f)
-
 -- A turn of the walk.
 module _ (limit : ℕ) (s : List ℕ) (places : List ℕ) (n i at : ℕ) where
   pub walk-next : i < n → componentForm limit s at ≡ true
@@ -67,16 +63,6 @@ module _ (limit : ℕ) (s : List ℕ) (places : List ℕ) (n i at : ℕ) where
 
   pub walk-done : n ≤ i → walkFrom (n - i) limit s places i at ≡ record { ok = true; end = at; places = places }
   walk-done h = rw (done n i h)
-
--- What a walk found is of its form or not, and tells where the page ends.
-module _ (limit : ℕ) (s : List ℕ) where
-  walk-ok : walkOf limit s .ok ≡ formBy limit s
-  unfolding walkOf
-  walk-ok = bool-cases (formBy limit s) (λ e. rw e) (λ e. rw e)
-
-  walk-end : formBy limit s ≡ true → walkOf limit s .end ≡ pageEnd s
-  unfolding walkOf
-  walk-end e = rw e
 
 -- The walk over bytes that are to be one page: the tests in order.
 module _ (s : List ℕ) where
@@ -94,7 +80,7 @@ module _ (s : List ℕ) where
 
     module _ (e : found .ok ≡ true) where
       ended : pageEnd s ≡ found .end
-      ended = rw w (sym (walk-end (length s) s (formed ∙ e)))
+      ended = rw w (sym (walk-end (length s) s (walk-ok (length s) s ∙ formed ∙ e)))
 
       pub page-rest : (found .end ≡ length s → ⊥) → pageWalk s ≡ faulty
       unfolding pageWalk pageForm

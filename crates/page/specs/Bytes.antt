@@ -19,7 +19,7 @@ abbrev pub objectsBytes : List Object → List ℕ
 objectsBytes [] = []
 objectsBytes (o ∷ os) = objectBytes o ++ objectsBytes os
 
--- Four numbers of two bytes, as both heads begin.
+-- Four numbers of two bytes, as a page head and a component begin.
 unfoldable pub words : ℕ → ℕ → ℕ → ℕ → List ℕ
 words a b c d = u16Bytes a ++ u16Bytes b ++ u16Bytes c ++ u16Bytes d
 

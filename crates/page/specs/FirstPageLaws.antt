@@ -2,7 +2,7 @@
 use Prim.Native.Nat.{ℕ, zero, suc, _+_, _*_, _≤_, _<_, min}
 use mathlib.Core.Path.{_≡_, refl, sym, _∙_}
 use mathlib.Core.List.{List, _++_, map}
-use mathlib.Core.Bool.{Bool, true, _&&_}
+use mathlib.Core.Bool.{true, _&&_}
 use native.Mathlib.Omega.{arith}
 use native.Mathlib.Nat.{min-le-left, min-le-right, le-min}
 use lib.Dec.{leb}
@@ -10,16 +10,12 @@ use lib.ListN.{length, take, drop, length-append}
 use lib.Seq.{take-append-seam, drop-append-seam, length-take-le}
 use borrow.Author.Tests.{leb-true, leb-false, le-leb, lt-leb}
 use Rattle.bytes_le.specs.NumberLaws.{u16-take, u32-take, u64-take}
-use Rattle.lists.specs.Bools.{bool-cases, both-true, true-both, clash}
+use Rattle.lists.specs.Bools.{bool-cases, both-true, true-both, same-test}
 use Rattle.page.specs.Form.{objectForm, objectsForm, componentMarks, recordsAt, behind, componentForm}
 use Rattle.page.specs.Form.{componentsForm, placesFrom, endFrom, headForm, counted, pageEnd, formBy, pageForm}
 use Rattle.page.specs.FormLaws.{component-within, components-parts, form-room, form-components, page-within}
 use Rattle.page.specs.FormLaws.{form-grows, form-shrinks, page-short, page-by, page-ends, page-of}
 use Rattle.page.specs.Content.{objectAt, objectsAt, componentAt, headOf, componentsOf}
-
--- Two tests that pass together are the same test.
-same-test : (a b : Bool) → (a ≡ true → b ≡ true) → (b ≡ true → a ≡ true) → a ≡ b
-same-test a b f g = bool-cases a (λ e. e ∙ sym (f e)) (λ e. bool-cases b (λ d. clash (g d) e) (λ d. e ∙ sym d))
 
 -- What is read of a record that lies in the first n bytes is read of these n bytes.
 module _ (n : ℕ) (s : List ℕ) where

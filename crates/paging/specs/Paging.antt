@@ -82,6 +82,11 @@ unfoldable pub outAnswer : ℕ → List ℕ → PageOut
 outAnswer zero page = Written (length page)
 outAnswer (suc n) page = Refused (suc n)
 
+-- The number that an answer stands for: that of the refusal, and 0 where the page was written.
+unfoldable pub outNumber : PageOut → ℕ
+outNumber (Written bytes) = 0
+outNumber (Refused n) = n
+
 -- The buffer under the number of a refusal, or under 0: as it was, or with the page in its first bytes; "buffer bytes
 -- past it stay".
 unfoldable pub outBuffer : ℕ → List ℕ → List ℕ → List ℕ

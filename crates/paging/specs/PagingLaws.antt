@@ -5,13 +5,13 @@ use mathlib.Core.Path.{_≡_, refl, sym, ap, _∙_}
 use mathlib.Core.List.{List, [], _∷_, _++_}
 use mathlib.Core.Bool.{true}
 use native.Mathlib.Omega.{arith}
-use native.Mathlib.Nat.{add-assoc}
+use native.Mathlib.Nat.{add-assoc, zero-add}
 use lib.Dec.{leb, ltb, leb·suc-suc}
 use lib.ListN.{length, take, drop, length-take, length-drop, length-map, take-append-drop}
-use lib.Seq.{drop-drop}
+use lib.Seq.{drop-drop, sets-eq, drop-append-seam}
 use borrow.Author.Tests.{leb-true, ltb-true, le-leb, lt-ltb, le-ltb}
 use Rattle.lists.specs.Bools.{bool-cases}
-use Rattle.lists.specs.Slices.{take-map}
+use Rattle.lists.specs.Slices.{take-map, take-sets}
 use Rattle.layout.specs.declared.Component.{Component}
 use Rattle.layout.specs.declared.Layout.{Layout}
 use Rattle.layout.specs.Records.{recordCount, view}
@@ -20,7 +20,7 @@ use Rattle.page.specs.Bytes.{sizeOf}
 use Rattle.page.specs.BytesLaws.{total, length-page}
 use Rattle.page.specs.Same.{Few, fields-few}
 use Rattle.paging.specs.Paging.{fitting, inPage, sum, pageStart, sizesOf, fromPage, firstPage, laterPages}
-use Rattle.paging.specs.Paging.{isSome, headFor, writtenPage}
+use Rattle.paging.specs.Paging.{isSome, headFor, writtenPage, outAnswer, outNumber, outBuffer}
 
 -- Each size is at most 496: a page has room for the component behind its head.
 abbrev pub Fit : List ℕ → Type 0
@@ -146,3 +146,22 @@ number-few l k v e =
     let h : pageStart k sizes < length (view l) =
     ltb-true (pageStart k sizes) (length (view l)) (rw isSome-drop at e) in
     omega (arith, page-number-le k sizes (valid-fit l v) (omega (arith, v .whole)), v .whole, v .few)
+
+-- The answer stands for the number of the refusal, or for 0.
+pub out-number : (n : ℕ) (page : List ℕ) → outNumber (outAnswer n page) ≡ n
+unfolding outNumber outAnswer
+out-number zero page = refl
+out-number (suc n) page = refl
+
+-- Where a page was written, the first bytes of the buffer are the page,
+pub written-first : (page buffer : List ℕ) → length page ≤ length buffer
+    → take (length page) (outBuffer 0 page buffer) ≡ page
+unfolding outBuffer
+written-first page buffer h = take-sets buffer page h
+
+-- and "buffer bytes past it stay".
+pub written-past : (page buffer : List ℕ) → length page ≤ length buffer
+    → drop (length page) (outBuffer 0 page buffer) ≡ drop (length page) buffer
+unfolding outBuffer
+written-past page buffer h =
+    ap (drop (length page)) (sets-eq page buffer 0 (omega arith)) ∙ rw zero-add (drop-append-seam page (drop (length page) buffer))

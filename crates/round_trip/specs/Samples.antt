@@ -1,4 +1,4 @@
--- Document 01's page of 72 bytes, and that the definitions read it and write it as the paper says.
+-- Document 01's page of 72 bytes and its layout B, and that the definitions read and write them as the paper says.
 use Prim.Native.Nat.{ℕ}
 use mathlib.Core.Path.{_≡_, refl}
 use mathlib.Core.List.{List, [], _∷_}
@@ -11,7 +11,7 @@ use Rattle.layout.specs.Fields.{isMinusOne, isTarget, firstTargetOk, fieldsOk}
 use Rattle.layout.specs.Neighbours.{neighboursHold}
 use Rattle.layout.specs.Distinct.{sameObject, distinctHold}
 use Rattle.layout.specs.Rules.{ruleBroken}
-use Rattle.layout.specs.Samples.{initOf, onePage}
+use Rattle.layout.specs.Samples.{initOf, bareOf, extensionOf, onePage, layoutB}
 use Rattle.page.specs.Form.{objectForm, componentMarks, recordsAt, componentForm, headForm, formBy, pageForm}
 use Rattle.page.specs.Content.{objectAt, componentAt, headOf, componentsOf}
 use Rattle.page.specs.Bytes.{objectBytes, words, longs, fieldBytes, componentBytes, headBytes, pageBytes}
@@ -44,3 +44,35 @@ sample-read = refl
 pub sample-written : writtenPages (packed 5 onePage) ≡ sample ∷ []
 unfolding writtenPages writtenPage pageBytes headBytes words componentBytes fieldBytes longs objectBytes u16Bytes u32Bytes u64Bytes bitsOf flagWord packObjects packComponents initOf onePage sample
 sample-written = refl
+
+-- Layout B, "the listing above, component 1 on target 0", of generation 9, as one page: the fields by the paper's
+-- tables.
+unfoldable pub listingPage : List ℕ
+listingPage =
+    0x50 ∷ 0x48 ∷ 0x00 ∷ 0x00 ∷ 0x00 ∷ 0x00 ∷ 0x04 ∷ 0x00 ∷ 0x09 ∷ 0x00 ∷ 0x00 ∷ 0x00 ∷ 0x00 ∷ 0x00 ∷ 0x00 ∷ 0x00
+    ∷ 0x43 ∷ 0x50 ∷ 0x01 ∷ 0x00 ∷ 0x01 ∷ 0x00 ∷ 0x01 ∷ 0x00 ∷ 0x00 ∷ 0x00 ∷ 0x10 ∷ 0x00 ∷ 0x00 ∷ 0x00 ∷ 0x00 ∷ 0x00
+    ∷ 0x00 ∷ 0x00 ∷ 0x00 ∷ 0x00 ∷ 0x00 ∷ 0x00 ∷ 0x00 ∷ 0x00 ∷ 0x00 ∷ 0x00 ∷ 0x00 ∷ 0x01 ∷ 0x00 ∷ 0x00 ∷ 0x00 ∷ 0x00
+    ∷ 0x00 ∷ 0x00 ∷ 0x00 ∷ 0x00 ∷ 0x00 ∷ 0x00 ∷ 0x00 ∷ 0x00 ∷ 0x4F ∷ 0x42 ∷ 0x00 ∷ 0x00 ∷ 0x00 ∷ 0x00 ∷ 0x00 ∷ 0x00
+    ∷ 0x0A ∷ 0x00 ∷ 0x00 ∷ 0x00 ∷ 0x00 ∷ 0x00 ∷ 0x00 ∷ 0x00 ∷ 0x43 ∷ 0x50 ∷ 0x02 ∷ 0x00 ∷ 0x02 ∷ 0x00 ∷ 0x00 ∷ 0x00
+    ∷ 0x00 ∷ 0x00 ∷ 0x00 ∷ 0x00 ∷ 0xFF ∷ 0xFF ∷ 0xFF ∷ 0xFF ∷ 0x00 ∷ 0x00 ∷ 0x00 ∷ 0x01 ∷ 0x00 ∷ 0x00 ∷ 0x00 ∷ 0x00
+    ∷ 0x00 ∷ 0x00 ∷ 0x40 ∷ 0x06 ∷ 0x00 ∷ 0x00 ∷ 0x00 ∷ 0x00 ∷ 0x00 ∷ 0x00 ∷ 0x00 ∷ 0x01 ∷ 0x00 ∷ 0x00 ∷ 0x00 ∷ 0x00
+    ∷ 0x43 ∷ 0x50 ∷ 0x00 ∷ 0x00 ∷ 0x03 ∷ 0x00 ∷ 0x01 ∷ 0x00 ∷ 0x00 ∷ 0x00 ∷ 0x10 ∷ 0x00 ∷ 0xFF ∷ 0xFF ∷ 0xFF ∷ 0xFF
+    ∷ 0x00 ∷ 0x00 ∷ 0x40 ∷ 0x06 ∷ 0x00 ∷ 0x00 ∷ 0x00 ∷ 0x00 ∷ 0x00 ∷ 0x00 ∷ 0x40 ∷ 0x06 ∷ 0x00 ∷ 0x00 ∷ 0x00 ∷ 0x00
+    ∷ 0x00 ∷ 0x00 ∷ 0x00 ∷ 0x00 ∷ 0x00 ∷ 0x00 ∷ 0x00 ∷ 0x00 ∷ 0x43 ∷ 0x50 ∷ 0x02 ∷ 0x00 ∷ 0x04 ∷ 0x00 ∷ 0x00 ∷ 0x00
+    ∷ 0x00 ∷ 0x00 ∷ 0x00 ∷ 0x00 ∷ 0xFF ∷ 0xFF ∷ 0xFF ∷ 0xFF ∷ 0x00 ∷ 0x00 ∷ 0x40 ∷ 0x06 ∷ 0x00 ∷ 0x00 ∷ 0x00 ∷ 0x00
+    ∷ 0xFF ∷ 0xFF ∷ 0xFF ∷ 0xFF ∷ 0xFF ∷ 0xFF ∷ 0xFF ∷ 0xFF ∷ 0x00 ∷ 0x00 ∷ 0x80 ∷ 0x01 ∷ 0x00 ∷ 0x00 ∷ 0x00 ∷ 0x00
+    ∷ []
+
+-- A new collector takes it and is complete, with layout B.
+pub listing-read : pageIn newCollector listingPage
+    ≡ record {
+      answer = Complete;
+      collector = record { pages = 1; complete = true; layout = packed 9 layoutB };
+    }
+unfolding settled pageRefusal openRefusal contentRefusal isNext collectorOk countsAgree pageForm formBy headForm componentForm componentMarks recordsAt objectForm headOf componentsOf componentAt objectAt u16At u32At u64At i32Of isSet onlyFirst packObjects packComponents ruleBroken fieldsOk kindOk extensionOk stripedOk nonzeroMultiple firstTargetOk isTarget isMinusOne neighboursHold distinctHold sameObject listingPage initOf bareOf extensionOf layoutB
+listing-read = refl
+
+-- Layout B is written as that one page.
+pub listing-written : writtenPages (packed 9 layoutB) ≡ listingPage ∷ []
+unfolding writtenPages writtenPage pageBytes headBytes words componentBytes fieldBytes longs objectBytes u16Bytes u32Bytes u64Bytes bitsOf flagWord packObjects packComponents initOf bareOf extensionOf layoutB listingPage
+listing-written = refl

@@ -7,7 +7,8 @@ use denote.Ref.{now}
 use borrow.Author.Tests.{not-true, not-false}
 use Rattle.page.specs.Form.{objectsForm, componentMarks, recordsAt, behind, componentForm, faulty, walkOf}
 use Rattle.page.proofs.Walking.{walkFrom, walk-short, walk-headless, walk-start, walk-next, walk-fault}
-use Rattle.page.proofs.Walking.{walk-done, past-limit, marks-wrong, objects-wrong, component-right}
+use Rattle.page.proofs.Walking.{walk-done, past-limit, marks-wrong, objects-wrong}
+use Rattle.page.specs.FormLaws.{component-of}
 use borrow.Author.Needs.{needs}
 use Rattle.page.proofs.form.walk.Statement.{statement}
 use Rattle.page.proofs.form.walk.Tie as tie
@@ -116,7 +117,7 @@ loop-again c =
     let r = b .before .record-count in
     let e : objectsForm (recordsAt (now (a .s)) (p .loop .at)) (now (a .s)) (p .loop .at + 40) ≡ true =
     rw (← r .ensures .0) (sym (c .before .objects-form .ensures) ∙ not-false _ (c .if6 .left)) in
-    let f = component-right (a .limit) (now (a .s)) (p .loop .at) (within b) (marked d) e in
+    let f = component-of (a .limit) (now (a .s)) (p .loop .at) (within b) (marked d) e in
     let t = b .before .before .before .loop-test .taken in (
       omega arith,
       omega arith,

@@ -62,7 +62,7 @@ ArePages g k [] = Unit {0}
 ArePages g k (p ∷ ps) = IsPage g k (somePages ps) p × ArePages g (suc k) ps
 
 -- What a reading of the pages ps tells that starts at the collector c₀ and ends at the complete collector c.
-pub record Reading (c₀ c : Collector) (ps : List (List ℕ)) : Type 0 where
+pub record WholeReading (c₀ c : Collector) (ps : List (List ℕ)) : Type 0 where
   -- The pages are those of one layout from the next page on, of the generation that the collector has at the end.
   pub pages : ArePages (c .layout .generation) (c₀ .pages) ps
   -- Their components stand behind those gathered before.
@@ -119,9 +119,9 @@ first-taken c₀ c p ps e =
     absurd (eqb-false n 0 z (sym k ∙ ap (λ (t : Taken). numberOf (t .answer)) r)))
 
 -- The answer is "complete" only if the collector is.
-answered : (b : Bool) → cond b Complete More ≡ Complete → b ≡ true
-answered true e = refl
-answered false e = cc
+pub answered-complete : (b : Bool) → Complete ≡ cond b Complete More → b ≡ true
+answered-complete true e = refl
+answered-complete false e = cc
 
 -- A page has at least one component.
 pub some-in-page : (p : List ℕ) → pageForm p ≡ true → 1 ≤ length (componentsOf p)
@@ -129,11 +129,11 @@ some-in-page p e = omega (arith, length-components p, some-components (length p)
 
 -- What a reading that ends complete tells, from any collector on that keeps the rules.
 pub reading : (c₀ c : Collector) (ps : List (List ℕ)) → length (c₀ .layout .components) ≡ 16 → Sound c₀
-    → readPages c₀ ps ≡ completed c → Reading c₀ c ps
+    → readPages c₀ ps ≡ completed c → WholeReading c₀ c ps
 reading c₀ c [] len s e =
     let x : c₀ ≡ c = ap (λ (t : Taken). t .collector) e in
-    let y : c₀ .complete ≡ true = answered (c₀ .complete) (ap (λ (t : Taken). t .answer) e) in
-    let r : Reading c₀ c₀ [] =
+    let y : c₀ .complete ≡ true = answered-complete (c₀ .complete) (sym (ap (λ (t : Taken). t .answer) e)) in
+    let r : WholeReading c₀ c₀ [] =
     record {
       pages = tt;
       components = sym (append-nil (gathered c₀));
@@ -142,7 +142,7 @@ reading c₀ c [] len s e =
       complete = y;
       sound = s;
     } in
-    subst (λ (d : Collector). Reading c₀ d []) x r
+    subst (λ (d : Collector). WholeReading c₀ d []) x r
 reading c₀ c (p ∷ ps) len s e =
     let h = headOf p in
     let cs = componentsOf p in
@@ -186,11 +186,11 @@ some-left g k [] a = refl
 some-left g k (p ∷ ps) a = some-append (componentsOf p) (componentsIn ps) (some-in-page p (a .0 .form))
 
 -- So there are no more pages than components.
-pub pages-few : (g k : ℕ) (ps : List (List ℕ)) → ArePages g k ps → length ps ≤ length (componentsIn ps)
-pages-few g k [] a = omega arith
-pages-few g k (p ∷ ps) a =
+pub pages-at-most : (g k : ℕ) (ps : List (List ℕ)) → ArePages g k ps → length ps ≤ length (componentsIn ps)
+pages-at-most g k [] a = omega arith
+pages-at-most g k (p ∷ ps) a =
     let one = some-in-page p (a .0 .form) in
-    omega (arith, pages-few g (suc k) ps (a .1), length-append (componentsOf p) (componentsIn ps))
+    omega (arith, pages-at-most g (suc k) ps (a .1), length-append (componentsOf p) (componentsIn ps))
 
 -- Where there are pages, there is at least one.
 pages-some : (ps : List (List ℕ)) → somePages ps ≡ true → 1 ≤ length ps
@@ -202,13 +202,13 @@ pages-some (p ∷ ps) e = omega arith
 module _ (ps : List (List ℕ)) (c : Collector)
     (e : readPages newCollector ps ≡ record { answer = Complete; collector = c }) where
   -- What it tells.
-  whole-reading : Reading newCollector c ps
+  whole-reading : WholeReading newCollector c ps
   whole-reading = reading newCollector c ps (new-held .places) (new-held .sound) e
 
   -- The collector gives the layout of the generation and the components that were gathered.
-  given : layoutOut c ≡ record { refusal = 0; layout = packed (c .layout .generation) (gathered c) }
+  pub reading-out : layoutOut c ≡ record { refusal = 0; layout = packed (c .layout .generation) (gathered c) }
   unfolding layoutOut
-  given = rw (facts-sound c (whole-reading .sound), whole-reading .complete)
+  reading-out = rw (facts-sound c (whole-reading .sound), whole-reading .complete)
 
   -- These are at most 16 components.
   gathered-few : length (gathered c) ≤ 16
@@ -222,11 +222,11 @@ module _ (ps : List (List ℕ)) (c : Collector)
   pages-gathered : length ps ≤ length (gathered c)
   pages-gathered =
       let n = ap length (whole-reading .components) in
-      omega (arith, pages-few (c .layout .generation) 0 ps (whole-reading .pages))
+      omega (arith, pages-at-most (c .layout .generation) 0 ps (whole-reading .pages))
 
   -- "Only a complete collector gives a layout": this one does, so no refusal applies,
   pub reading-given : layoutOut c .refusal ≡ 0
-  reading-given = rw given
+  reading-given = rw reading-out
 
   -- and the layout is valid.
   pub reading-valid : valid (layoutOut c .layout) ≡ true
@@ -234,7 +234,7 @@ module _ (ps : List (List ℕ)) (c : Collector)
       let one : 1 ≤ length ps = pages-some ps (whole-reading .wanted) in
       let v : view (packed (c .layout .generation) (gathered c)) ≡ gathered c =
       view-pack (c .layout .generation) (gathered c) gathered-few in
-      rw given
+      rw reading-out
       (facts-valid (packed (c .layout .generation) (gathered c))
       (record {
         some = omega (arith, pages-gathered);
@@ -245,11 +245,12 @@ module _ (ps : List (List ℕ)) (c : Collector)
 
   -- The pages are all pages of one layout, in their order, and have the generation of the layout that is given.
   pub reading-pages : ArePages (layoutOut c .layout .generation) 0 ps
-  reading-pages = rw given (whole-reading .pages)
+  reading-pages = rw reading-out (whole-reading .pages)
 
   -- The components of the layout that is given are those of the pages, one page behind the other.
   pub reading-view : view (layoutOut c .layout) ≡ componentsIn ps
-  reading-view = rw given (view-pack (c .layout .generation) (gathered c) gathered-few ∙ whole-reading .components)
+  reading-view =
+      rw reading-out (view-pack (c .layout .generation) (gathered c) gathered-few ∙ whole-reading .components)
 
   -- Each of them is to have at most 16 object records.
   pub reading-few : Few (componentsIn ps)

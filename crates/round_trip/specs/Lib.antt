@@ -3,8 +3,10 @@ pub mod Samples
 pub mod InMemory
 pub mod Blanking
 pub mod PageLaws
-pub mod WriteThenRead
 pub mod CompleteReading
+pub mod AnyPaging
+pub mod WriteThenRead
 pub mod SamePages
 pub mod ReadThenWrite
 pub mod RunsOfPages
+pub mod RunsRead

@@ -2,13 +2,13 @@
 -- its number.
 use Prim.Native.Nat.{ℕ, zero, suc, _+_, _-_, _≤_, _<_}
 use mathlib.Core.Path.{_≡_, refl, sym, ap, _∙_}
-use mathlib.Core.List.{List, [], _∷_, _++_}
+use mathlib.Core.List.{List, [], _∷_}
 use mathlib.Core.Bool.{true, false, cond}
 use native.Mathlib.Omega.{arith}
 use native.Mathlib.Nat.{zero-add, add-zero, add-suc, suc-add}
 use lib.Dec.{ltb, leb·suc-suc}
-use lib.ListN.{length, getD, take, drop, length-drop, length-map}
-use lib.Seq.{take-add, length-take-le}
+use lib.ListN.{length, getD, take, length-drop, length-map}
+use lib.Seq.{length-take-le}
 use borrow.Author.Tests.{ltb-true, ltb-false, lt-ltb, le-ltb, le-leb}
 use Rattle.lists.specs.Bools.{bool-cases}
 use Rattle.lists.specs.Slices.{take-map}
@@ -23,7 +23,7 @@ use Rattle.page.specs.BytesLaws.{total}
 use Rattle.paging.specs.Paging.{inPage, sum, pageStart, sizesOf, fromPage, firstPage, isSome, writtenPage}
 use Rattle.paging.specs.Paging.{writeRefusal, outRefusal}
 use Rattle.paging.specs.PagingLaws.{Fit, fit-drop, inPage-le, inPage-some, page-fits, pageStart-next, pageStart-mono}
-use Rattle.paging.specs.PagingLaws.{page-number-le, sizes-drop, total-sum, length-written, valid-fit, isSome-drop}
+use Rattle.paging.specs.PagingLaws.{page-number-le, sizes-drop, total-sum, written-le, valid-fit, isSome-drop}
 use Rattle.round_trip.specs.Pages.{writtenFrom, writtenPages}
 
 -- How many components of a layout stand before page k.
@@ -43,14 +43,7 @@ first-room cs =
 
 -- "A page has 16 to 512 bytes": a page that is written has at most 512, so a buffer of 512 bytes is never too short.
 pub page-room : (l : Layout) (k : ℕ) → length (writtenPage l k) ≤ 512
-page-room l k = omega (arith, length-written l k, first-room (fromPage k (view l)))
-
--- The components before page k + 1 are those before page k and those of page k.
-pub before-next : (k : ℕ) (cs : List Component)
-    → take (pageStart (suc k) (sizesOf cs)) cs ≡ take (pageStart k (sizesOf cs)) cs ++ firstPage (fromPage k cs)
-before-next k cs =
-    let n = pageStart k (sizesOf cs) in
-    rw (pageStart-next k (sizesOf cs), ← sizes-drop n cs) (take-add n (inPage (sizesOf (drop n cs))) cs)
+page-room l k = written-le l k
 
 -- There is a page k exactly if fewer components stand before it than there are.
 pub page-there : (l : Layout) (k : ℕ) → isSome (fromPage k (view l)) ≡ ltb (startOf l k) (length (view l))

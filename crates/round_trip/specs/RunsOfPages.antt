@@ -38,6 +38,7 @@ use Rattle.collector.specs.CutLaws.{listed-ended, listed-next, host-ended, host
 use Rattle.round_trip.specs.Pages.{readPages, writtenPages, blanked}
 use Rattle.round_trip.specs.InMemory.{InMemory}
 use Rattle.round_trip.specs.WriteThenRead.{written-read-back, written-given-back}
+use Rattle.round_trip.specs.CompleteReading.{answered-complete}
 
 -- The pages one behind the other: "the layout as pages back to back".
 abbrev pub backToBack : List (List ℕ) → List ℕ
@@ -142,11 +143,7 @@ all-taken {cut} {join} w c₀ c a (p ∷ ps) h n e =
     (λ z. let stopped : first ≡ record { answer = a; collector = c } = rw z at f in
     absurd (eqb-false number 0 z (ap (λ (r : Taken). numberOf (r .answer)) stopped ∙ n)))
 
--- The answer is "complete" only if the collector is, and "more wanted" only if it is not.
-answered-complete : (b : Bool) → Complete ≡ cond b Complete More → b ≡ true
-answered-complete true e = refl
-answered-complete false e = cc
-
+-- The answer is "more wanted" only if the collector is not complete.
 answered-more : (b : Bool) → More ≡ cond b Complete More → b ≡ false
 answered-more true e = cc
 answered-more false e = refl

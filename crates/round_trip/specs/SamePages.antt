@@ -29,27 +29,28 @@ use Rattle.round_trip.specs.Pages.{writtenFrom, firstSize, pagedByRule, 
 use Rattle.round_trip.specs.CompleteReading.{componentsIn, ArePages, some-left}
 
 -- The first of the components, if there is one, does not fit into `room` bytes behind the `used` bytes.
-abbrev Spills : ℕ → ℕ → List Component → Type 0
-Spills room used [] = Unit {0}
-Spills room used (c ∷ cs) = room < used + sizeOf c
+abbrev DoesNotFit : ℕ → ℕ → List Component → Type 0
+DoesNotFit room used [] = Unit {0}
+DoesNotFit room used (c ∷ cs) = room < used + sizeOf c
 
 -- Then it does not fit into what `size` of the used bytes leave of the room.
-spills-less : (room size used : ℕ) (ds : List Component) → Spills room (size + used) ds → Spills (room - size) used ds
-spills-less room size used [] h = tt
-spills-less room size used (d ∷ ds) h = omega arith
+unfit-less : (room size used : ℕ) (ds : List Component) → DoesNotFit room (size + used) ds
+    → DoesNotFit (room - size) used ds
+unfit-less room size used [] h = tt
+unfit-less room size used (d ∷ ds) h = omega arith
 
 -- Of components that fit, and others behind them, the first of which does not fit too, the writer puts just the former
 -- into the page.
-fitting-exact : (room : ℕ) (cs ds : List Component) → total cs ≤ room → Spills room (total cs) ds
+fitting-exact : (room : ℕ) (cs ds : List Component) → total cs ≤ room → DoesNotFit room (total cs) ds
     → fitting room (sizesOf (cs ++ ds)) ≡ length cs
 fitting-exact room [] [] h k = refl
 fitting-exact room [] (d ∷ ds) h k = rw (lt-leb (sizeOf d) room (omega arith))
 fitting-exact room (c ∷ cs) ds h k =
     rw (le-leb (sizeOf c) room (omega arith))
-    (ap suc (fitting-exact (room - sizeOf c) cs ds (omega arith) (spills-less room (sizeOf c) (total cs) ds k)))
+    (ap suc (fitting-exact (room - sizeOf c) cs ds (omega arith) (unfit-less room (sizeOf c) (total cs) ds k)))
 
 -- So these are the components of the writer's page, and the others those behind it.
-module _ (cs ds : List Component) (h : total cs ≤ 496) (k : Spills 496 (total cs) ds) where
+module _ (cs ds : List Component) (h : total cs ≤ 496) (k : DoesNotFit 496 (total cs) ds) where
   first-exact : firstPage (cs ++ ds) ≡ cs
   first-exact = rw (fitting-exact 496 cs ds h k) (take-append-seam cs ds)
 
@@ -70,17 +71,17 @@ page-size : (p : List ℕ) → pageForm p ≡ true → Few (componentsOf p) → 
 page-size p e f = sym (page-ends p e) ∙ read-end p f
 
 -- The first of the components from a place on takes as many bytes as those at the place say.
-first-spills : (n : ℕ) (s : List ℕ) (at room used : ℕ) (ds : List Component) → 1 ≤ n → Few (componentsAt n s at)
-    → room < used + endsAt 0 (recordsAt s at) → Spills room used (componentsAt n s at ++ ds)
-first-spills zero s at room used ds h f k = absurd (omega arith)
-first-spills (suc n) s at room used ds h f k = omega (arith, read-whole s at (f .0))
+first-unfit : (n : ℕ) (s : List ℕ) (at room used : ℕ) (ds : List Component) → 1 ≤ n → Few (componentsAt n s at)
+    → room < used + endsAt 0 (recordsAt s at) → DoesNotFit room used (componentsAt n s at ++ ds)
+first-unfit zero s at room used ds h f k = absurd (omega arith)
+first-unfit (suc n) s at room used ds h f k = omega (arith, read-whole s at (f .0))
 
 -- So does the first component of a page.
-page-spills : (room used : ℕ) (q : List ℕ) (ds : List Component) → pageForm q ≡ true → Few (componentsOf q)
-    → room < used + firstSize q → Spills room used (componentsOf q ++ ds)
+page-unfit : (room used : ℕ) (q : List ℕ) (ds : List Component) → pageForm q ≡ true → Few (componentsOf q)
+    → room < used + firstSize q → DoesNotFit room used (componentsOf q ++ ds)
 unfolding componentsOf
-page-spills room used q ds e f k =
-    first-spills (counted q) q 16 room used ds (some-components (length q) q (page-by q e)) f k
+page-unfit room used q ds e f k =
+    first-unfit (counted q) q 16 room used ds (some-components (length q) q (page-by q e)) f k
 
 -- What was paged by the writer's rule was so from its second page on too.
 rule-behind : (p : List ℕ) (ps : List (List ℕ)) → pagedByRule (p ∷ ps) ≡ true → pagedByRule ps ≡ true
@@ -88,16 +89,16 @@ rule-behind p [] e = refl
 rule-behind p (q ∷ qs) e = both-true (ltb 512 (length p + firstSize q)) (pagedByRule (q ∷ qs)) e .1
 
 -- The first component of its second page, if there is one, does not fit into the first page.
-rule-spills : (g k : ℕ) (p : List ℕ) (ps : List (List ℕ)) → ArePages g k (p ∷ ps) → Few (componentsIn (p ∷ ps))
-    → pagedByRule (p ∷ ps) ≡ true → Spills 496 (total (componentsOf p)) (componentsIn ps)
-rule-spills g k p [] a f e = tt
-rule-spills g k p (q ∷ qs) a f e =
+rule-unfit : (g k : ℕ) (p : List ℕ) (ps : List (List ℕ)) → ArePages g k (p ∷ ps) → Few (componentsIn (p ∷ ps))
+    → pagedByRule (p ∷ ps) ≡ true → DoesNotFit 496 (total (componentsOf p)) (componentsIn ps)
+rule-unfit g k p [] a f e = tt
+rule-unfit g k p (q ∷ qs) a f e =
     let later = componentsIn (q ∷ qs) in
     let size = page-size p (a .0 .form) (few-left (componentsOf p) later f) in
     let few = few-left (componentsOf q) (componentsIn qs) (few-right (componentsOf p) later f) in
     let test = both-true (ltb 512 (length p + firstSize q)) (pagedByRule (q ∷ qs)) e .0 in
     let past = ltb-true 512 (length p + firstSize q) test in
-    page-spills 496 (total (componentsOf p)) q (componentsIn qs) (a .1 .0 .form) few (omega arith)
+    page-unfit 496 (total (componentsOf p)) q (componentsIn qs) (a .1 .0 .form) few (omega arith)
 
 -- Of the pages of a layout from page k on, paged by the writer's rule, each of their components to have at most 16
 -- object records:
@@ -110,11 +111,11 @@ module _ (g k : ℕ) (p : List ℕ) (ps : List (List ℕ)) (a : ArePages g k (p 
 
   -- the writer puts just these into it,
   first-same : firstPage (componentsIn (p ∷ ps)) ≡ componentsOf p
-  first-same = first-exact (componentsOf p) (componentsIn ps) first-fits (rule-spills g k p ps a f e)
+  first-same = first-exact (componentsOf p) (componentsIn ps) first-fits (rule-unfit g k p ps a f e)
 
   -- and those of the later pages behind it;
   later-same : laterPages (componentsIn (p ∷ ps)) ≡ componentsIn ps
-  later-same = later-exact (componentsOf p) (componentsIn ps) first-fits (rule-spills g k p ps a f e)
+  later-same = later-exact (componentsOf p) (componentsIn ps) first-fits (rule-unfit g k p ps a f e)
 
   -- so its head is written as it was,
   head-same : headFor g k (componentsIn (p ∷ ps)) ≡ headOf p

@@ -37,12 +37,16 @@ pub sample-read : pageIn newCollector sample
       answer = Complete;
       collector = record { pages = 1; complete = true; layout = packed 5 onePage };
     }
-unfolding settled pageRefusal openRefusal contentRefusal isNext collectorOk countsAgree pageForm formBy headForm componentForm componentMarks recordsAt objectForm headOf componentsOf componentAt objectAt u16At u32At u64At i32Of isSet onlyFirst packObjects packComponents ruleBroken fieldsOk kindOk extensionOk stripedOk nonzeroMultiple firstTargetOk isTarget isMinusOne neighboursHold distinctHold sameObject sample initOf onePage
+unfolding settled pageRefusal openRefusal contentRefusal isNext collectorOk countsAgree pageForm formBy headForm
+    componentForm componentMarks recordsAt objectForm headOf componentsOf componentAt objectAt u16At u32At u64At i32Of
+    isSet onlyFirst packObjects packComponents ruleBroken fieldsOk kindOk extensionOk stripedOk nonzeroMultiple
+    firstTargetOk isTarget isMinusOne neighboursHold distinctHold sameObject sample initOf onePage
 sample-read = refl
 
 -- That layout is written as that one page.
 pub sample-written : writtenPages (packed 5 onePage) ≡ sample ∷ []
-unfolding writtenPages writtenPage pageBytes headBytes words componentBytes fieldBytes longs objectBytes u16Bytes u32Bytes u64Bytes bitsOf flagWord packObjects packComponents initOf onePage sample
+unfolding writtenPages writtenPage pageBytes headBytes words componentBytes fieldBytes longs objectBytes u16Bytes
+    u32Bytes u64Bytes bitsOf flagWord packObjects packComponents initOf onePage sample
 sample-written = refl
 
 -- Layout B, "the listing above, component 1 on target 0", of generation 9, as one page: the fields by the paper's
@@ -69,10 +73,15 @@ pub listing-read : pageIn newCollector listingPage
       answer = Complete;
       collector = record { pages = 1; complete = true; layout = packed 9 layoutB };
     }
-unfolding settled pageRefusal openRefusal contentRefusal isNext collectorOk countsAgree pageForm formBy headForm componentForm componentMarks recordsAt objectForm headOf componentsOf componentAt objectAt u16At u32At u64At i32Of isSet onlyFirst packObjects packComponents ruleBroken fieldsOk kindOk extensionOk stripedOk nonzeroMultiple firstTargetOk isTarget isMinusOne neighboursHold distinctHold sameObject listingPage initOf bareOf extensionOf layoutB
+unfolding settled pageRefusal openRefusal contentRefusal isNext collectorOk countsAgree pageForm formBy headForm
+    componentForm componentMarks recordsAt objectForm headOf componentsOf componentAt objectAt u16At u32At u64At i32Of
+    isSet onlyFirst packObjects packComponents ruleBroken fieldsOk kindOk extensionOk stripedOk nonzeroMultiple
+    firstTargetOk isTarget isMinusOne neighboursHold distinctHold sameObject listingPage initOf bareOf extensionOf
+    layoutB
 listing-read = refl
 
 -- Layout B is written as that one page.
 pub listing-written : writtenPages (packed 9 layoutB) ≡ listingPage ∷ []
-unfolding writtenPages writtenPage pageBytes headBytes words componentBytes fieldBytes longs objectBytes u16Bytes u32Bytes u64Bytes bitsOf flagWord packObjects packComponents initOf bareOf extensionOf layoutB listingPage
+unfolding writtenPages writtenPage pageBytes headBytes words componentBytes fieldBytes longs objectBytes u16Bytes
+    u32Bytes u64Bytes bitsOf flagWord packObjects packComponents initOf bareOf extensionOf layoutB listingPage
 listing-written = refl

@@ -1,47 +1,39 @@
 -- "What the writer writes reads back to the same layout": all pages of a valid layout, taken one after another from a
--- new collector, end complete at that layout. The theorem is `written-read-back`, near the end.
+-- new collector, end complete at that layout. The theorem is `written-read-back`, near the end. The pages that are
+-- written are those of one layout in their order, with its components, so the reader takes them as it takes any paging.
 use Prim.Native.Nat.{ℕ, zero, suc, _+_, _≤_, _<_}
 use mathlib.Core.Path.{_≡_, refl, sym, ap, _∙_}
 use mathlib.Core.List.{List, [], _∷_, _++_, map}
-use mathlib.Core.Bool.{Bool, true, false, not}
+use mathlib.Core.Bool.{true, false}
 use native.Mathlib.Omega.{arith}
-use native.Mathlib.Nat.{zero-add}
-use native.Mathlib.Numerals.{add-one}
-use lib.Dec.{ltb}
-use lib.ListN.{length, take, drop, replicate, length-append, length-take, length-drop, length-map}
-use lib.Seq.{sets, take-all, length-take-le}
-use borrow.Author.Tests.{eq-eqb, ne-eqb, ltb-true, ltb-false, lt-ltb}
+use lib.ListN.{length, take, drop, length-drop, length-map}
+use borrow.Author.Tests.{ltb-true, le-ltb, lt-ltb}
 use Rattle.lists.specs.Bools.{bool-cases}
-use Rattle.lists.specs.Slices.{sets-append, map-append, take-map}
+use Rattle.lists.specs.Slices.{map-append}
 use Rattle.layout.specs.declared.Component.{Component}
 use Rattle.layout.specs.declared.Layout.{Layout}
-use Rattle.layout.specs.Records.{noComponent, view, packComponents, packed}
-use Rattle.layout.specs.RecordLaws.{view-pack}
-use Rattle.layout.specs.Rules.{ruleBroken, valid}
+use Rattle.layout.specs.Records.{view}
+use Rattle.layout.specs.Rules.{valid}
 use Rattle.layout.specs.Facts.{Keeps, Valid}
-use Rattle.layout.specs.FactLaws.{facts-keep, valid-facts}
-use Rattle.layout.specs.PrefixLaws.{keeps-take}
+use Rattle.layout.specs.FactLaws.{valid-facts}
 use Rattle.page.specs.declared.Head.{Head}
 use Rattle.page.specs.Bytes.{sizeOf}
 use Rattle.page.specs.Form.{pageForm}
 use Rattle.page.specs.Content.{headOf, componentsOf}
 use Rattle.page.specs.Same.{trimmed, AllFit, FitsHead}
 use Rattle.page.specs.WrittenRead.{written-read}
-use Rattle.collector.specs.declared.Collector.{Collector}
-use Rattle.collector.specs.declared.Taken.{Taken}
 use Rattle.collector.specs.declared.Answer.the-variants.{Complete}
-use Rattle.collector.specs.Collector.{newCollector, gathered}
-use Rattle.collector.specs.Taking.{numberOf, isNext, joined, accepted, contentRefusal, pageRefusal, settled, pageIn}
-use Rattle.collector.specs.TakingLaws.{refused-open, refused-content, refused-rule}
-use Rattle.collector.specs.Sound.{Sound, facts-sound}
+use Rattle.collector.specs.Collector.{newCollector}
 use Rattle.collector.specs.Giving.{layoutOut}
 use Rattle.paging.specs.Paging.{inPage, sizesOf, fromPage, firstPage, laterPages, isSome, headFor, writtenPage}
-use Rattle.paging.specs.PagingLaws.{inPage-le, next-page, isSome-drop}
+use Rattle.paging.specs.PagingLaws.{inPage-le, next-page, first-later}
 use Rattle.round_trip.specs.Pages.{readPages, writtenFrom, writtenPages, blanked}
 use Rattle.round_trip.specs.InMemory.{InMemory, layout-fits}
-use Rattle.round_trip.specs.Blanking.{keeps-same, view-blanked, blanked-valid}
-use Rattle.round_trip.specs.PageLaws.{startOf, length-first, first-room, before-next, page-there, page-some}
-use Rattle.round_trip.specs.PageLaws.{start-rises, number-le, written-cons, written-nil, pages-some, pages-few}
+use Rattle.round_trip.specs.Blanking.{keeps-same, view-blanked}
+use Rattle.round_trip.specs.PageLaws.{startOf, length-first, first-room, page-there, page-some}
+use Rattle.round_trip.specs.PageLaws.{start-rises, number-le, written-cons, written-nil}
+use Rattle.round_trip.specs.CompleteReading.{componentsIn, somePages, ArePages, IsPage, some-left, reading-out}
+use Rattle.round_trip.specs.AnyPaging.{any-paging}
 
 -- Of components that a page can hold, the first ones and the last ones are such.
 fit-take : (n : ℕ) (cs : List Component) → AllFit cs → AllFit (take n cs)
@@ -54,82 +46,20 @@ fit-rest zero cs f = f
 fit-rest (suc n) [] f = tt
 fit-rest (suc n) (c ∷ cs) f = fit-rest n cs (f .1)
 
--- Components behind those of a layout whose unused places are blank give such a layout again.
-joined-packed : (g old : ℕ) (xs ys : List Component) → joined g (packed old xs) ys ≡ packed g (xs ++ ys)
-unfolding packComponents
-joined-packed g old xs ys =
-    let stored : sets (replicate 16 noComponent) 0 (xs ++ ys) ≡ sets (packComponents xs) (length xs) ys =
-    sets-append (replicate 16 noComponent) 0 xs ys ∙ rw zero-add in
-    λ i. record { generation = g; count = sym (length-append xs ys) i; components = sym stored i }
+-- Blanking the unused places of components leaves none where there are none, and some where there are some.
+none-trimmed : (cs : List Component) → isSome cs ≡ false → map trimmed cs ≡ []
+none-trimmed [] e = refl
+none-trimmed (c ∷ cs) e = cc
 
--- A collector that has taken k pages with these components and waits for more.
-abbrev holding : ℕ → ℕ → List Component → Collector
-holding k g cs = record { pages = k; complete = false; layout = packed g cs }
-
--- One page is taken by a collector that holds the components xs: the page has its form, its components are ys, its
--- number is the next, and the rules hold of xs and ys together, with pages outstanding where its head says so.
-page-taken : (k old : ℕ) (xs : List Component) (h : Head) (ys : List Component) (p : List ℕ) → Sound (holding k old xs)
-    → pageForm p ≡ true → headOf p ≡ h → componentsOf p ≡ ys → isNext k old h ≡ true → length xs + length ys ≤ 16
-    → ruleBroken (h .more) (xs ++ ys) ≡ 0
-    → pageIn (holding k old xs) p ≡ accepted (k + 1) (h .more) (packed (h .generation) (xs ++ ys))
-unfolding settled
-page-taken k old xs h ys p sound form head page next few rules =
-    let c = holding k old xs in
-    let held : gathered c ≡ xs = view-pack old xs (omega arith) in
-    let content : contentRefusal c h ys ≡ 0 = refused-rule c h ys next few ∙ rw held rules in
-    let none : pageRefusal c p ≡ 0 =
-    refused-open c p (facts-sound c sound) ∙ refused-content c p refl form ∙ rw (head, page) content in
-    rw (none, head, page, joined-packed (h .generation) old xs ys)
-
--- Refusal 4 does not apply: the page has the number that the collector waits for, and behind page 0 its generation.
-next-number : (k old : ℕ) (h : Head) → h .number ≡ k → (0 < k → h .generation ≡ old) → isNext k old h ≡ true
-unfolding isNext
-next-number zero old h e f = rw (eq-eqb (h .number) 0 e)
-next-number (suc k) old h e f =
-    rw (eq-eqb (h .number) (suc k) e, ne-eqb (suc k) 0 (λ z. omega arith), eq-eqb (h .generation) old (f (omega arith)))
-
--- The first n components of a list that keeps the rules break none, with pages outstanding where components are left.
-first-kept : (n : ℕ) (cs : List Component) → Keeps false cs
-    → ruleBroken (isSome (drop n cs)) (map trimmed (take n cs)) ≡ 0
-first-kept n cs keeps =
-    let blank = keeps-same false cs keeps in
-    rw (isSome-drop n cs)
-    (bool-cases (ltb n (length cs))
-    (λ e. rw (e, take-map trimmed n cs)
-    (facts-keep true (take n (map trimmed cs)) (keeps-take false n (map trimmed cs) blank)))
-    (λ e. rw (e, take-all n cs (ltb-false n (length cs) e)) (facts-keep false (map trimmed cs) blank)))
-
--- The components of a layout before page k, the unused places of their object arrays blank.
-abbrev before : Layout → ℕ → List Component
-before l k = map trimmed (take (startOf l k) (view l))
-
--- The collector that has taken the pages before page k. Its generation is that of the layout once it has taken a page.
-abbrev reached : Layout → ℕ → ℕ → Collector
-reached l k old = holding k old (before l k)
+some-trimmed : (cs : List Component) → isSome (map trimmed cs) ≡ isSome cs
+some-trimmed [] = refl
+some-trimmed (c ∷ cs) = refl
 
 -- Where a valid layout has a page k,
-module _ (l : Layout) (v : Valid l) (k : ℕ) (has : startOf l k < length (view l)) where
-  -- the collector that has taken the pages before it keeps the rules;
-  reached-sound : (old : ℕ) → Sound (reached l k old)
-  reached-sound old =
-      let n : length (before l k) ≡ startOf l k =
-      length-map (take (startOf l k) (view l)) trimmed ∙ length-take-le (startOf l k) (view l) (omega arith) in
-      let few : length (before l k) ≤ 16 = omega (arith, v .whole, v .few) in
-      let held : view (packed old (before l k)) ≡ before l k = view-pack old (before l k) few in
-      let there : isSome (fromPage k (view l)) ≡ true = page-there l k ∙ lt-ltb (startOf l k) (length (view l)) has in
-      record {
-        few = few;
-        none = λ z. rw z;
-        unfinished = λ z. refl;
-        within = omega (arith, number-le l v k has);
-        whole = ap length held;
-        kept = rw (held, ← there) (first-kept (startOf l k) (view l) (v .keeps));
-      }
-
+module _ (l : Layout) (v : Valid l) (m : InMemory l) (k : ℕ) (has : startOf l k < length (view l)) where
   -- its head is one that a page can hold;
-  head-fits : InMemory l
-      → FitsHead (headFor (l .generation) k (fromPage k (view l))) (length (firstPage (fromPage k (view l))))
-  head-fits m =
+  head-fits : FitsHead (headFor (l .generation) k (fromPage k (view l))) (length (firstPage (fromPage k (view l))))
+  head-fits =
       let rest = fromPage k (view l) in
       let page : inPage (sizesOf rest) ≤ length rest =
       omega (arith, inPage-le (sizesOf rest), length-map rest sizeOf) in
@@ -142,77 +72,56 @@ module _ (l : Layout) (v : Valid l) (k : ℕ) (has : startOf l k < length (view 
         few = omega (arith, length-first rest);
       }
 
-  -- and it is taken by the collector that has taken the pages before it. The collector then has taken the pages before
-  -- page k + 1, and is complete exactly if there is no such page.
-  page-step : InMemory l → AllFit (view l) → (old : ℕ) → (0 < k → l .generation ≡ old)
-      → pageIn (reached l k old) (writtenPage l k)
-      ≡ accepted (k + 1) (isSome (fromPage (suc k) (view l))) (packed (l .generation) (before l (suc k)))
+  -- and the page has its form, and its head and its components are read back.
+  page-back : AllFit (view l)
+      → (pageForm (writtenPage l k) ≡ true)
+      × (headOf (writtenPage l k) ≡ headFor (l .generation) k (fromPage k (view l)))
+      × (componentsOf (writtenPage l k) ≡ map trimmed (firstPage (fromPage k (view l))))
   unfolding writtenPage
-  page-step m fits old same =
+  page-back fits =
       let rest = fromPage k (view l) in
-      let page = firstPage rest in
-      let h = headFor (l .generation) k rest in
-      let r = written-read h page (head-fits m)
-      (fit-take (inPage (sizesOf rest)) rest (fit-rest (startOf l k) (view l) fits)) (first-room rest) in
-      let both : before l k ++ map trimmed page ≡ before l (suc k) =
-      sym (map-append trimmed (take (startOf l k) (view l)) page) ∙ ap (map trimmed) (sym (before-next k (view l))) in
-      let few : length (before l (suc k)) ≤ 16 =
-      omega (
-        arith,
-        length-map (take (startOf l (suc k)) (view l)) trimmed,
-        length-take (startOf l (suc k)) (view l),
-        v .whole,
-        v .few,
-      ) in
-      let room : length (before l k) + length (map trimmed page) ≤ 16 =
-      omega (arith, ap length both, length-append (before l k) (map trimmed page)) in
-      let rules : ruleBroken (isSome (laterPages rest)) (before l k ++ map trimmed page) ≡ 0 =
-      rw (both, ← next-page k (view l)) (first-kept (startOf l (suc k)) (view l) (v .keeps)) in
-      page-taken k old (before l k) h (map trimmed page) (writtenPage l k) (reached-sound old) (r .0) (r .1) (r .2)
-      (next-number k old h refl same) room rules
-      ∙ rw (both, next-page k (view l))
+      written-read (headFor (l .generation) k rest) (firstPage rest) head-fits
+      (fit-take (inPage (sizesOf rest)) rest (fit-rest (startOf l k) (view l) fits)) (first-room rest)
 
--- A page that is taken is followed by the next.
-read-next : (c : Collector) (p : List ℕ) (ps : List (List ℕ)) (n : ℕ) (more : Bool) (l : Layout)
-    → pageIn c p ≡ accepted n more l
-    → readPages c (p ∷ ps) ≡ readPages (record { pages = n; complete = not more; layout = l }) ps
-unfolding numberOf
-read-next c p ps n true l e = rw e
-read-next c p ps n false l e = rw e
+-- The pages ps are those of a layout from page k on, in their order, and their components are those of the layout from
+-- page k on, the unused places of their object arrays blank.
+record Written (l : Layout) (k : ℕ) (ps : List (List ℕ)) : Type 0 where
+  pages : ArePages (l .generation) k ps
+  components : componentsIn ps ≡ map trimmed (fromPage k (view l))
 
--- A collector that has taken n pages, is complete, and holds this layout.
-abbrev finished : ℕ → Layout → Collector
-finished n l = record { pages = n; complete = true; layout = l }
+-- So it is of the pages that are written from page k on where there is no page k: none are written;
+none-written : (l : Layout) (n k : ℕ) → isSome (fromPage k (view l)) ≡ false → Written l k (writtenFrom n k l)
+none-written l n k e =
+    rw (written-nil n k l e) (record { pages = tt; components = sym (none-trimmed (fromPage k (view l)) e) })
 
--- What reading ends at where the last page was taken.
-abbrev ended : ℕ → Layout → Taken
-ended n l = record { answer = Complete; collector = finished n l }
-
--- The pages from page k on, of which there are at most n, are taken by the collector that has taken those before.
-read-from : (l : Layout) → Valid l → InMemory l → AllFit (view l) → (n k old : ℕ) → (0 < k → l .generation ≡ old)
-    → startOf l k < length (view l) → length (view l) ≤ startOf l k + n
-    → readPages (reached l k old) (writtenFrom n k l) ≡ ended (k + length (writtenFrom n k l)) (blanked l)
-read-from l v m fits zero k old same has most = absurd (omega arith)
-read-from l v m fits (suc n) k old same has most =
-    let len = length (view l) in
-    let start = startOf l (suc k) in
-    let there : isSome (fromPage k (view l)) ≡ true = page-there l k ∙ lt-ltb (startOf l k) len has in
-    let more = isSome (fromPage (suc k) (view l)) in
-    let first = read-next (reached l k old) (writtenPage l k) (writtenFrom n (suc k) l) (k + 1) more
-    (packed (l .generation) (before l (suc k))) (page-step l v k has m fits old same) in
-    rw (written-cons n k l there)
-    (first
-    ∙ bool-cases (ltb start len)
-    (λ e. let q : k + suc (length (writtenFrom n (suc k) l)) ≡ suc k + length (writtenFrom n (suc k) l) = omega arith in
-    rw (page-there l (suc k), e, add-one, q)
-    (read-from l v m fits n (suc k) (l .generation) (λ z. refl) (ltb-true start len e)
-    (omega (arith, start-rises l v k has))))
-    (λ e. rw (
-      written-nil n (suc k) l (page-there l (suc k) ∙ e),
-      page-there l (suc k),
-      e,
-      take-all start (view l) (ltb-false start len e),
-    )))
+-- and so it is from each page k on, where their limit n is not below the number of components that are left.
+written-from : (l : Layout) → Valid l → InMemory l → AllFit (view l) → (n k : ℕ)
+    → length (view l) ≤ startOf l k + n → Written l k (writtenFrom n k l)
+written-from l v m fits zero k most =
+    none-written l zero k (page-there l k ∙ le-ltb (startOf l k) (length (view l)) (omega arith))
+written-from l v m fits (suc n) k most =
+    bool-cases (isSome (fromPage k (view l)))
+    (λ e. let g = l .generation in
+    let rest = fromPage k (view l) in
+    let later = writtenFrom n (suc k) l in
+    let has = ltb-true (startOf l k) (length (view l)) (sym (page-there l k) ∙ e) in
+    let page = page-back l v m k has fits in
+    let r = written-from l v m fits n (suc k) (omega (arith, start-rises l v k has)) in
+    let behind : componentsIn later ≡ map trimmed (laterPages rest) =
+    r .components ∙ ap (map trimmed) (next-page k (view l)) in
+    let more : isSome (laterPages rest) ≡ somePages later =
+    sym (some-trimmed (laterPages rest)) ∙ ap isSome (sym behind) ∙ some-left g (suc k) later (r .pages) in
+    let first : IsPage g k (somePages later) (writtenPage l k) =
+    record {
+      form = page .0;
+      number = ap (λ (h : Head). h .number) (page .1);
+      generation = ap (λ (h : Head). h .generation) (page .1);
+      follows = ap (λ (h : Head). h .more) (page .1) ∙ more;
+    } in
+    let all : componentsOf (writtenPage l k) ++ componentsIn later ≡ map trimmed rest =
+    rw (page .2, behind, ← map-append trimmed (firstPage rest) (laterPages rest), first-later rest) in
+    rw (written-cons n k l e) (record { pages = (first, r .pages); components = all }))
+    (λ e. none-written l (suc n) k e)
 
 -- "What the writer writes reads back to the same layout": for each valid layout, the pages that the writer writes,
 -- taken one after another from a new collector, are all taken, and the last answers "complete". The collector then
@@ -228,29 +137,21 @@ pub written-read-back : (l : Layout) → valid l ≡ true → InMemory l
 unfolding writtenPages
 written-read-back l e m =
     let v = valid-facts l e in
-    read-from l v m (layout-fits l e m) 16 0 0 (λ z. absurd (omega arith)) (omega (arith, v .whole, v .some))
-    (omega (arith, v .whole, v .few))
-    ∙ rw zero-add
-
--- The collector that has taken all pages keeps the rules.
-finished-sound : (l : Layout) → valid l ≡ true → Sound (finished (length (writtenPages l)) (blanked l))
-finished-sound l e =
-    let v = valid-facts l e in
-    let some = pages-some l e in
-    let n : length (map trimmed (view l)) ≡ l .count = length-map (view l) trimmed ∙ v .whole in
-    record {
-      few = omega (arith, v .few);
-      none = λ z. absurd (omega arith);
-      unfinished = λ z. absurd (omega arith);
-      within = omega (arith, pages-few l e);
-      whole = ap length (view-blanked l e);
-      kept = facts-keep false (view (blanked l)) (valid-facts (blanked l) (blanked-valid l e) .keeps);
-    }
+    let g = l .generation in
+    let ps = writtenPages l in
+    let w : Written l 0 ps = written-from l v m (layout-fits l e m) 16 0 (omega (arith, v .whole, v .few)) in
+    let there : isSome (fromPage 0 (view l)) ≡ true =
+    page-there l 0 ∙ lt-ltb 0 (length (view l)) (omega (arith, v .whole, v .some)) in
+    let some : somePages ps ≡ true =
+    sym (some-left g 0 ps (w .pages)) ∙ ap isSome (w .components) ∙ some-trimmed (view l) ∙ there in
+    let few : length (componentsIn ps) ≤ 16 =
+    omega (arith, ap length (w .components), length-map (view l) trimmed, v .whole, v .few) in
+    let keeps : Keeps false (componentsIn ps) = rw (w .components) (keeps-same false (view l) (v .keeps)) in
+    any-paging g ps (w .pages) some few keeps ∙ rw (w .components)
 
 -- "Only a complete collector gives a layout": that collector is complete, and gives that layout.
 pub written-given-back : (l : Layout) → valid l ≡ true → InMemory l
     → layoutOut (readPages newCollector (writtenPages l) .collector) ≡ record { refusal = 0; layout = blanked l }
-unfolding layoutOut
 written-given-back l e m =
-    let c = finished (length (writtenPages l)) (blanked l) in
-    rw (written-read-back l e m, facts-sound c (finished-sound l e), view-blanked l e)
+    rw (written-read-back l e m)
+    (reading-out (writtenPages l) _ (written-read-back l e m) ∙ rw (view-blanked l e))

@@ -6,7 +6,7 @@ use Rattle.page.proofs.form.component_marks.Tie as tie
 
 returns : tie.Need-returns
 unfolding componentMarks
-returns c = cc
+returns c = rw (← c .before .before .u16-at .ensures, ← c .only-first-two .ensures, ← c .before .u16-at2 .ensures)
 
 pub component-marks-spec : {M : Type 1} → statement M
 component-marks-spec = tie.close (tie.spec (λ c. search needs) (λ c. search needs) (λ c. search needs) (λ c. search needs) returns)

@@ -6,7 +6,7 @@ use Rattle.page.proofs.form.object_form.Tie as tie
 
 returns : tie.Need-returns
 unfolding objectForm
-returns c = cc
+returns c = rw (← c .before .u16-at .ensures, ← c .u16-at2 .ensures)
 
 pub object-form-spec : {M : Type 1} → statement M
 object-form-spec = tie.close (tie.spec (λ c. search needs) (λ c. search needs) (λ c. search needs) returns)

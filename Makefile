@@ -7,7 +7,7 @@ run:
 	@mkdir -p target
 	@rt check > target/run.log 2>&1 || { cat target/run.log; exit 1; }
 	@tail -n 1 target/run.log
-	@target/bin/page_vectors
+	@target/bin/page_vectors < crates/page_vectors/stdin
 
 test:
 	.ci/run

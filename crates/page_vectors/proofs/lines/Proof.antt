@@ -1,0 +1,14 @@
+-- `lines` is safe and ends: the loop stays within its bound.
+use Prim.Native.Nat.{_≤_, _-_}
+use borrow.Author.Needs.{needs}
+use Rattle.page_vectors.proofs.lines.Statement.{statement}
+use Rattle.page_vectors.proofs.lines.Tie as tie
+
+abbrev Inv-loop : tie.InvT-loop
+Inv-loop s to n₀ at₀ n at = at ≤ to
+
+abbrev μ-loop : tie.MeasureT-loop
+μ-loop s to n₀ at₀ n at = to - at
+
+pub lines-spec : {M : Type 1} → statement M
+lines-spec = tie.close (tie.spec Inv-loop μ-loop (λ c. search needs) (λ c κs. search needs) (λ c κs. search needs) (λ c. search needs) (λ c. search needs) (λ c. search needs) (λ c. search needs) (λ c. search needs))

@@ -1,0 +1,14 @@
+-- `numbers` is safe and ends: the loop stays within its bound.
+use Prim.Native.Nat.{_≤_, _-_}
+use borrow.Author.Needs.{needs}
+use Rattle.page_vectors.proofs.text.numbers.Statement.{statement}
+use Rattle.page_vectors.proofs.text.numbers.Tie as tie
+
+abbrev Inv-loop : tie.InvT-loop
+Inv-loop s from to n₀ i₀ n i = from ≤ i
+
+abbrev μ-loop : tie.MeasureT-loop
+μ-loop s from to n₀ i₀ n i = to - i
+
+pub numbers-spec : {M : Type 1} → statement M
+numbers-spec = tie.close (tie.spec Inv-loop μ-loop (λ c. search needs) (λ c κs. search needs) (λ c κs. search needs) (λ c. search needs) (λ c. search needs) (λ c. search needs) (λ c. search needs))

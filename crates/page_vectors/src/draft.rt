@@ -99,7 +99,8 @@ pub(crate) fn with_hex(
     r
 }
 
-// The bytes with one edit: `4=0100` changes those from place 4 on, `#71` makes them 71, zero bytes behind.
+// The bytes with one edit: `4=0100` changes those from place 4 on, `#71` makes them 71, with zero bytes where these are
+// more.
 fn with_edit(d: Draft, s: &[u8], from: usize, to: usize) -> Draft {
     if text::byte_at(s, from) == b'#' {
         let v = text::numbers(s, std::num::wrapping_add_usize(from, 1), to);

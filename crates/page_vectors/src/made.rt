@@ -65,16 +65,7 @@ fn second_of_a() -> Component {
     with_object(with_object(with_object(c, 0, 1, 11), 1, 2, 12), 2, 3, 13)
 }
 
-// Layout A: two init components and a bare one.
-fn layout_a() -> Layout {
-    let mut l = alone(1, first(2 * M));
-    l.components[1] = second_of_a();
-    l.components[2] = bare(3, 16 * M, EOF, 4, 4194304);
-    l.count = 3;
-    l
-}
-
-// A layout of one component.
+// A layout of one component. The unused places mean nothing.
 fn alone(generation: u32, c: Component) -> Layout {
     let mut components = [bare(0, 0, 0, 0, 0); 16];
     components[0] = c;
@@ -83,6 +74,15 @@ fn alone(generation: u32, c: Component) -> Layout {
         count: 1,
         components: components,
     }
+}
+
+// Layout A: two init components and a bare one.
+fn layout_a() -> Layout {
+    let mut l = alone(1, first(2 * M));
+    l.components[1] = second_of_a();
+    l.components[2] = bare(3, 16 * M, EOF, 4, 4194304);
+    l.count = 3;
+    l
 }
 
 // Layout B: an init component and its extension, an empty bare one and its extension.
@@ -113,8 +113,8 @@ pub(crate) fn changed(l: Layout, count: usize, id: usize) -> Layout {
     r
 }
 
-// The component at position i: 1M in `count` stripes of 64 KiB, on the objects numbered i of the targets from 0 on;
-// where the count is 0, bare and of one stripe.
+// The component at position i: 1M in `count` stripes of 64 KiB, at most 16, on the objects numbered i of the targets
+// from 0 on; where the count is 0, bare and of one stripe.
 fn striped(i: usize, count: usize) -> Component
     requires { ⌜ i < 16 ⌝ }
 {

@@ -33,8 +33,8 @@ fn put_out(out: PageOut) -> usize {
     }
 }
 
-// Does the byte at place i stand where it should: that of the page in the first `written` places, and behind them what
-// the buffer held before?
+// Is this the byte that is expected at place i of the buffer: that of the page in the first `written` places, and
+// behind them what the buffer held before?
 fn is_expected(i: usize, byte: u8, page: Draft, written: usize) -> bool {
     if i < written {
         if i < 1024 {

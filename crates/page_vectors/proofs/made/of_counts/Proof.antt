@@ -1,4 +1,4 @@
--- `of_counts` is safe and ends: the loop stays within its bound.
+-- `page_vectors::made::of_counts` is safe and ends: each turn of its loop brings it nearer to its bound.
 use Prim.Native.Nat.{_≤_, _-_}
 use borrow.Author.Needs.{needs}
 use Rattle.page_vectors.proofs.made.of_counts.Statement.{statement}
@@ -11,4 +11,8 @@ abbrev μ-loop : tie.MeasureT-loop
 μ-loop counts l₀ i₀ l i = 16 - i
 
 pub of-counts-spec : {M : Type 1} → statement M
-of-counts-spec = tie.close (tie.spec Inv-loop μ-loop (λ c κs. search needs) (λ c κs. search needs) (λ c. search needs) (λ c. search needs) (λ c. search needs) (λ c κs. search needs) (λ c. search needs) (λ c. search needs) (λ c. search needs) (λ c. search needs) (λ c. search needs) (λ c. search needs))
+of-counts-spec =
+    tie.close
+    (tie.spec Inv-loop μ-loop (λ c κs. search needs) (λ c κs. search needs) (λ c. search needs)
+    (λ c. search needs) (λ c. search needs) (λ c κs. search needs) (λ c. search needs) (λ c. search needs)
+    (λ c. search needs) (λ c. search needs) (λ c. search needs) (λ c. search needs))

@@ -1,4 +1,4 @@
--- `with_numbers` is safe and ends: the loop stays within its bound.
+-- `page_vectors::pages::with_numbers` is safe and ends: each turn of its loop brings it nearer to its bound.
 use Prim.Native.Nat.{_≤_, _-_}
 use borrow.Author.Needs.{needs}
 use Rattle.page_vectors.proofs.pages.with_numbers.Statement.{statement}
@@ -11,4 +11,8 @@ abbrev μ-loop : tie.MeasureT-loop
 μ-loop numbers widths r₀ i₀ r i = 16 - i
 
 pub with-numbers-spec : {M : Type 1} → statement M
-with-numbers-spec = tie.close (tie.spec Inv-loop μ-loop (λ c. search needs) (λ c. search needs) (λ c. search needs) (λ c. search needs) (λ c. search needs) (λ c κs. search needs) (λ c. search needs) (λ c. search needs) (λ c. search needs) (λ c. search needs))
+with-numbers-spec =
+    tie.close
+    (tie.spec Inv-loop μ-loop (λ c. search needs) (λ c. search needs) (λ c. search needs) (λ c. search needs)
+    (λ c. search needs) (λ c κs. search needs) (λ c. search needs) (λ c. search needs) (λ c. search needs)
+    (λ c. search needs))

@@ -1,4 +1,4 @@
--- `numbers` is safe and ends: the loop stays within its bound.
+-- `page_vectors::text::numbers` is safe and ends: each turn of its loop brings it nearer to its bound.
 use Prim.Native.Nat.{_≤_, _-_}
 use borrow.Author.Needs.{needs}
 use Rattle.page_vectors.proofs.text.numbers.Statement.{statement}
@@ -11,4 +11,7 @@ abbrev μ-loop : tie.MeasureT-loop
 μ-loop s from to n₀ i₀ n i = to - i
 
 pub numbers-spec : {M : Type 1} → statement M
-numbers-spec = tie.close (tie.spec Inv-loop μ-loop (λ c. search needs) (λ c κs. search needs) (λ c κs. search needs) (λ c. search needs) (λ c. search needs) (λ c. search needs) (λ c. search needs))
+numbers-spec =
+    tie.close
+    (tie.spec Inv-loop μ-loop (λ c. search needs) (λ c κs. search needs) (λ c κs. search needs)
+    (λ c. search needs) (λ c. search needs) (λ c. search needs) (λ c. search needs))

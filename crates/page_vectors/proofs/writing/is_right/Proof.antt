@@ -1,4 +1,4 @@
--- `is_right` is safe and ends: the loop stays within its bound.
+-- `page_vectors::writing::is_right` is safe and ends: each turn of its loop brings it nearer to its bound.
 use Prim.Native.Nat.{_≤_, _-_}
 use borrow.Author.Needs.{needs}
 use Rattle.page_vectors.proofs.writing.is_right.Statement.{statement}
@@ -11,4 +11,7 @@ abbrev μ-loop : tie.MeasureT-loop
 μ-loop page written buffer i₀ i = 1024 - i
 
 pub is-right-spec : {M : Type 1} → statement M
-is-right-spec = tie.close (tie.spec Inv-loop μ-loop (λ c. search needs) (λ c. search needs) (λ c κs. search needs) (λ c. search needs) (λ c. search needs) (λ c. search needs) (λ c. search needs) (λ c. search needs))
+is-right-spec =
+    tie.close
+    (tie.spec Inv-loop μ-loop (λ c. search needs) (λ c. search needs) (λ c κs. search needs)
+    (λ c. search needs) (λ c. search needs) (λ c. search needs) (λ c. search needs) (λ c. search needs))

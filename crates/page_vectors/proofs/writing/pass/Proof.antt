@@ -1,4 +1,4 @@
--- `pass` is safe and ends: the loop stays within its bound.
+-- `page_vectors::writing::pass` is safe and ends: each turn of its loop brings it nearer to its bound.
 use Prim.Native.Nat.{_≤_, _-_}
 use borrow.Author.Needs.{needs}
 use Rattle.page_vectors.proofs.writing.pass.Statement.{statement}
@@ -11,4 +11,7 @@ abbrev μ-loop : tie.MeasureT-loop
 μ-loop l asked c₀ number₀ c number = asked - number
 
 pub pass-spec : {M : Type 1} → statement M
-pass-spec = tie.close (tie.spec Inv-loop μ-loop (λ c κs. search needs) (λ c. search needs) (λ c κs. search needs) (λ c. search needs) (λ c. search needs) (λ c. search needs) (λ c κs. search needs) (λ c. search needs))
+pass-spec =
+    tie.close
+    (tie.spec Inv-loop μ-loop (λ c κs. search needs) (λ c. search needs) (λ c κs. search needs)
+    (λ c. search needs) (λ c. search needs) (λ c. search needs) (λ c κs. search needs) (λ c. search needs))

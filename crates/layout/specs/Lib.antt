@@ -9,6 +9,7 @@ pub mod Facts
 pub mod FactLaws
 pub mod PrefixLaws
 pub mod HolderLaws
+pub mod ArrayLaws
 pub mod RecordLaws
 pub mod Rows
 pub mod Samples

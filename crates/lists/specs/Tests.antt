@@ -3,7 +3,7 @@
 use Prim.Native.Nat.{ℕ, zero, suc, _+_, _≤_, _<_}
 use mathlib.Core.Path.{_≡_, refl, sym, ap, _∙_}
 use mathlib.Core.List.{List, [], _∷_, _++_}
-use mathlib.Core.Bool.{Bool, true, false, cond, _&&_, false≢true}
+use mathlib.Core.Bool.{Bool, true, false, cond, _&&_, _||_, false≢true}
 use native.Mathlib.Omega.{arith}
 use native.Mathlib.Nat.{suc-add}
 use lib.Dec.{eqb}
@@ -44,6 +44,11 @@ ahead ok (a ∷ l) = ok a l ∷ ahead ok l
 -- One test for each element by itself.
 abbrev pub each : {A : Type 0} → (A → Bool) → List A → List Bool
 each {A} ok l = ahead (λ (a : A) (rest : List A). ok a) l
+
+-- Does an element pass the test?
+abbrev pub anyOf : {A : Type 0} → (A → Bool) → List A → Bool
+anyOf ok [] = false
+anyOf ok (a ∷ l) = ok a || anyOf ok l
 
 -- Every test passes exactly if the first that fails stands at the number of tests.
 pub none-failed : (ts : List Bool) → length ts ≤ firstFailed ts → every ts ≡ true
@@ -115,6 +120,19 @@ module _ {A : Type 0} (ok : A → Bool) (d : A) where
   pub at-each : (l : List A) → ((i : ℕ) → i < length l → ok (getD l i d) ≡ true) → every (each ok l) ≡ true
   at-each [] h = refl
   at-each (a ∷ l) h = true-both (h 0 (omega arith)) (at-each l (λ i k. h (suc i) (omega arith)))
+
+-- An element of a list passes a test exactly if the one at some place does.
+module _ {A : Type 0} (ok : A → Bool) (d : A) where
+  pub any-at : (l : List A) (i : ℕ) → i < length l → ok (getD l i d) ≡ true → anyOf ok l ≡ true
+  any-at [] i h e = absurd (omega arith)
+  any-at (a ∷ l) zero h e = rw e
+  any-at (a ∷ l) (suc i) h e = bool-cases (ok a) (λ q. rw q) (λ q. rw q (any-at l i (omega arith) e))
+
+  pub any-place : (l : List A) → anyOf ok l ≡ true → (i : ℕ) × (i < length l) × (ok (getD l i d) ≡ true)
+  any-place [] e = absurd (false≢true e)
+  any-place (a ∷ l) e =
+      bool-cases (ok a) (λ q. (0, omega arith, q))
+      (λ q. let p = any-place l (rw q at e) in (suc (p .0), omega (arith, p .1), p .2))
 
 -- A conjunction `t && u && v ..`, by its first test and the list of the others.
 abbrev pub conjunction : Bool → List Bool → Bool

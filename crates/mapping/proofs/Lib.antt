@@ -1,0 +1,4 @@
+pub mod Components
+pub mod Found
+pub mod Owned
+pub mod UnitSteps

@@ -1,0 +1,67 @@
+-- The laws of cutting that its code asks for: the pieces of a component by its flag, the numbers that the pieces of a
+-- list of components are written as, and the answer and the lent numbers under the number of a refusal.
+use Prim.Native.Nat.{ℕ, zero, suc, _+_, _*_}
+use mathlib.Core.Path.{_≡_, refl, sym, ap, _∙_}
+use mathlib.Core.List.{List, _∷_}
+use mathlib.Core.Bool.{Bool, true, false, cond}
+use lib.ListN.{length}
+use lib.Seq.{sets}
+use Rattle.lists.specs.Slices.{sets-append}
+use Rattle.layout.specs.declared.Component.{Component}
+use Rattle.mapping.specs.declared.Piece.{Piece}
+use Rattle.mapping.specs.Answers.{gives, refuses}
+use Rattle.mapping.specs.AnswerLaws.{answer-refused}
+use Rattle.mapping.specs.Cutting.{unitCount, partBegin, partEnd, partCount, partPieces, piecesOf, pieceCount}
+use Rattle.mapping.specs.Cutting.{cutRefusal, cutIn, allNumbers, roomAfter}
+use Rattle.mapping.specs.UnitLaws.{length-units, length-numbers, numbers-append}
+
+module _ (a b : ℕ) (c : Component) where
+  -- The number of pieces of a component by its init flag.
+  abbrev countBy : Bool → ℕ
+  countBy init = cond init (unitCount (c .«stripe_size») (partBegin a c) (partEnd b c)) 0
+
+  -- A component that is not init has no pieces.
+  pub part-not-init : c .init ≡ false → partCount a b c ≡ 0
+  part-not-init e = ap countBy e
+
+  -- One that is init has a piece for each unit.
+  pub part-init : c .init ≡ true → unitCount (c .«stripe_size») (partBegin a c) (partEnd b c) ≡ partCount a b c
+  part-init e = sym (ap countBy e)
+
+  -- Where it has no pieces, nothing is written.
+  pub part-none : (room : List ℕ) (at : ℕ) → partCount a b c ≡ 0 → room ≡ sets room at (allNumbers (partPieces a b c))
+  part-none room at e = rw e
+
+  -- Its pieces are five numbers each.
+  length-part : length (allNumbers (partPieces a b c)) ≡ 5 * partCount a b c
+  length-part = length-numbers (partPieces a b c) ∙ rw length-units
+
+  -- The pieces of a list of components are written one component behind the other.
+  pub pieces-next : (room : List ℕ) (at : ℕ) (cs : List Component)
+      → sets room at (allNumbers (piecesOf a b (c ∷ cs)))
+      ≡ sets (sets room at (allNumbers (partPieces a b c))) (at + 5 * partCount a b c) (allNumbers (piecesOf a b cs))
+  pieces-next room at cs = rw (numbers-append, sets-append, length-part)
+
+-- Under the number of a refusal all lent numbers stay.
+room-refused : (n : ℕ) (ps : List Piece) (room : List ℕ) → (n ≡ 0 → ⊥) → room ≡ roomAfter n ps room
+unfolding roomAfter
+room-refused zero ps room h = absurd (h refl)
+room-refused (suc n) ps room h = refl
+
+-- The request of m bytes from offset a, under the number r of its refusal or 0.
+module _ (a m : ℕ) (cs : List Component) (room : List ℕ) (r : ℕ) (e : r ≡ cutRefusal a m (length room) cs) where
+  -- A request that is refused.
+  pub cut-refused : (r ≡ 0 → ⊥)
+      → (refuses r ≡ cutIn a m (length room) cs)
+      × (room ≡ roomAfter (cutRefusal a m (length room) cs) (piecesOf a (a + m) cs) room)
+  unfolding cutIn
+  cut-refused h =
+      rw (← e) (answer-refused r (pieceCount a (a + m) cs) h, room-refused r (piecesOf a (a + m) cs) room h)
+
+  -- A request that is accepted.
+  pub cut-accepted : r ≡ 0
+      → (gives (pieceCount a (a + m) cs) ≡ cutIn a m (length room) cs)
+      × (sets room 0 (allNumbers (piecesOf a (a + m) cs))
+      ≡ roomAfter (cutRefusal a m (length room) cs) (piecesOf a (a + m) cs) room)
+  unfolding cutIn roomAfter
+  cut-accepted h = rw (← e, h) (refl, refl)

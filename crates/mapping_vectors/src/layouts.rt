@@ -1,0 +1,122 @@
+// The layouts that the text of the cases defines: on a line a dollar sign, the name, the generation and the number of
+// components, and then a line for each component, up to an empty one.
+use crate::text;
+use layout::Component;
+use layout::Layout;
+use layout::Object;
+
+const NONE: Object = Object {
+    target: 0,
+    number: 0,
+};
+
+// The object records of a component's numbers: a target and a number each, from place 7 on.
+fn objects(v: [u64; 40]) -> [Object; 16] {
+    let mut r = [NONE; 16];
+    let mut j: usize = 0;
+    while j < 16 {
+        r[j] = Object {
+            target: (v[7 + 2 * j] % 4294967296) as u32,
+            number: v[8 + 2 * j],
+        };
+        j += 1;
+    }
+    r
+}
+
+// An init or a bare component of its numbers: id, begin, end, the word for its kind, stripe count, stripe size, first
+// target and object records. The first target of a bare one is -1.
+fn striped(v: [u64; 40], init: bool) -> Component {
+    let mut c = Component {
+        init: init,
+        extension: false,
+        id: (v[0] % 65536) as u16,
+        stripe_count: (v[4] % 65536) as u16,
+        stripe_size: (v[5] % 4294967296) as u32,
+        first_target: -1,
+        begin: v[1],
+        end: v[2],
+        extension_size: 0,
+        objects: objects(v),
+    };
+    if init {
+        c.first_target = (v[6] % 65536) as i32;
+    }
+    c
+}
+
+// An extension of its numbers: its extension size stands in place of the stripe size.
+fn extension(v: [u64; 40]) -> Component {
+    let mut c = striped(v, false);
+    c.extension = true;
+    c.stripe_size = 0;
+    c.extension_size = v[5];
+    c
+}
+
+// The place behind the next space.
+fn next_word(s: &[u8], from: usize, to: usize) -> usize {
+    std::num::wrapping_add_usize(text::find(s, from, to, b' '), 1)
+}
+
+// The component of the line from `from` to `to`, whose fourth word is `init`, `bare` or `extension`.
+fn component(s: &[u8], from: usize, to: usize) -> Component {
+    let v = text::numbers(s, from, to);
+    let kind = next_word(s, next_word(s, next_word(s, from, to), to), to);
+    match text::byte_at(s, kind) {
+        b'i' => striped(v, true),
+        b'b' => striped(v, false),
+        _ => extension(v),
+    }
+}
+
+// The layout whose definition goes on at `from`, behind its name.
+pub(crate) fn defined(s: &[u8], from: usize) -> Layout {
+    let to = s.len();
+    let mut end = text::find(s, from, to, b'\n');
+    let v = text::numbers(s, from, end);
+    let mut l = layout::no_layout();
+    l.generation = (v[2] % 4294967296) as u32;
+    l.count = v[4] as usize;
+    let mut i: usize = 0;
+    while i < 16 {
+        let at = std::num::wrapping_add_usize(end, 1);
+        if text::byte_at(s, at) < b'0' {
+            return l;
+        }
+        end = text::find(s, at, to, b'\n');
+        l.components[i] = component(s, at, end);
+        i += 1;
+    }
+    l
+}
+
+// The places of the text's dollar signs, of which there are at most 32; the rest behind its end.
+pub(crate) fn definitions(s: &[u8]) -> [usize; 32] {
+    let to = s.len();
+    let mut places = [to; 32];
+    let mut at: usize = 0;
+    let mut i: usize = 0;
+    while i < 32 {
+        at = text::find(s, at, to, b'$');
+        places[i] = at;
+        at = std::num::wrapping_add_usize(at, 1);
+        i += 1;
+    }
+    places
+}
+
+// Where the definition of the layout whose name stands at `name` goes on behind the name; the end of the text where
+// there is none.
+pub(crate) fn definition(s: &[u8], definitions: [usize; 32], name: usize) -> usize {
+    let to = s.len();
+    let mut i: usize = 0;
+    while i < 32 {
+        let next = std::num::wrapping_add_usize(definitions[i], 1);
+        if text::is_word(s, next, name) {
+            return text::find(s, next, to, b' ');
+        }
+        i += 1;
+    }
+    to
+}

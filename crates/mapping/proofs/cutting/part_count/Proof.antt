@@ -1,5 +1,5 @@
 -- `mapping::cutting::part_count` meets its contract: an init component has a piece for each of its units in the request.
-use mathlib.Core.Path.{_≡_, sym, _∙_}
+use mathlib.Core.Path.{_≡_, refl, sym, _∙_}
 use mathlib.Core.Bool.{true, false}
 use native.Mathlib.Omega.{arith}
 use borrow.Author.Tests.{not-true, not-false}
@@ -33,7 +33,7 @@ returns-2 c =
     let z = a .c .«stripe_size» in
     let part : unitCount z (from .higher-of .result) (to .lower-of .result)
     ≡ unitCount z (partBegin (a .offset) (a .c)) (partEnd (a .stop) (a .c))
-    = rw (from .higher-of .ensures, to .lower-of .ensures) in (
+    = rw (from .higher-of .ensures, to .lower-of .ensures) refl in (
       c .unit-count .ensures .0 ∙ part ∙ part-init (a .offset) (a .stop) (a .c) (init (from .before)),
       c .unit-count .ensures .1,
     )

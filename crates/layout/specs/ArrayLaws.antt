@@ -1,5 +1,5 @@
--- The components of a valid layout, by their places in its array. What is said to stand past the end of a list, d, does not
--- matter.
+-- The components of a valid layout, by their places in its array. What is said to stand past the end of a list, d, does
+-- not matter.
 use Prim.Native.Nat.{ℕ, zero, suc, _+_, _-_, _<_}
 use mathlib.Core.Path.{_≡_, refl, ap, _∙_}
 use mathlib.Core.List.{List, [], _∷_}

@@ -47,6 +47,11 @@ module _ {A : Type 0} (same : A → A → Bool) where
   count-append x [] m = omega arith
   count-append x (a ∷ l) m = omega (arith, count-append x l m)
 
+  -- An element stands in two lists, one behind the other, exactly if it stands in one of them.
+  pub elem-append : (x : A) (l m : List A) → elem x (l ++ m) ≡ (elem x l || elem x m)
+  elem-append x [] m = refl
+  elem-append x (a ∷ l) m = bool-cases (same x a) (λ e. rw e) (λ e. rw e (elem-append x l m))
+
   -- An element that does not stand in a list counts 0 there, and one that does at least 1.
   pub elem-false : (x : A) (l : List A) → elem x l ≡ false → count x l ≡ 0
   elem-false x [] e = refl
@@ -88,6 +93,13 @@ module _ {A : Type 0} (same : A → A → Bool) where
 
     pub count-fresh : (l : List A) → ((x : A) → count x l ≤ 1) → every (fresh l) ≡ true
     count-fresh l h = along-count [] l h
+
+    -- The element at a place stands in the list.
+    pub elem-at : (l : List A) (i : ℕ) (d : A) → i < length l → elem (getD l i d) l ≡ true
+    elem-at [] i d h = absurd (omega arith)
+    elem-at (a ∷ l) zero d h = rw (same-refl a)
+    elem-at (a ∷ l) (suc i) d h =
+        bool-cases (same (getD l i d) a) (λ e. rw e) (λ e. rw e (elem-at l i d (omega arith)))
 
     -- The element at a place counts; where it counts once, it stands at no other place.
     pub count-at : (l : List A) (i : ℕ) (d : A) → i < length l → 1 ≤ count (getD l i d) l

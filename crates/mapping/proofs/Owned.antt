@@ -17,7 +17,7 @@ use Rattle.layout.specs.Records.{recordsOf, view}
 use Rattle.layout.specs.Facts.{IsInit, Valid}
 use Rattle.mapping.specs.Answers.{gives, refuses, answer}
 use Rattle.mapping.specs.Homes.{inObject}
-use Rattle.mapping.specs.Back.{positionIn, ownerOf, owner, fileByteIn, hidden, backRefusal, byteOf, backIn}
+use Rattle.mapping.specs.Back.{positionIn, ownerOf, owner, fileByteIn, hiddenRefusal, backRefusal, byteOf, backIn}
 use Rattle.mapping.specs.BackLaws.{owner-elem, owner-has, elem-init}
 use Rattle.layout.specs.ArrayLaws.{component-at}
 use Rattle.layout.proofs.Unread.{unread}
@@ -43,8 +43,8 @@ module _ (z s i p : ℕ) where
 
 -- A file byte outside the extent or not below 2^64 is refused by 14.
 pub outside-refused : (begin end b : ℕ) → (begin ≤ b → b < end → b < 2 ^ 64 → ⊥)
-    → answer (hidden begin end b) b ≡ refuses 14
-unfolding hidden
+    → answer (hiddenRefusal begin end b) b ≡ refuses 14
+unfolding hiddenRefusal
 outside-refused begin end b h =
     cond-elim (λ (n : ℕ). answer n b ≡ refuses 14) (leb begin b && ltb b end && ltb b (2 ^ 64))
     (λ e. let p = conjunction-at (leb begin b) (ltb b end ∷ ltb b (2 ^ 64) ∷ []) e in
@@ -52,8 +52,8 @@ outside-refused begin end b h =
     (λ e. refl)
 
 -- Any other is given.
-pub inside-given : (begin end b : ℕ) → begin ≤ b → b < end → b < 2 ^ 64 → answer (hidden begin end b) b ≡ gives b
-unfolding hidden
+pub inside-given : (begin end b : ℕ) → begin ≤ b → b < end → b < 2 ^ 64 → answer (hiddenRefusal begin end b) b ≡ gives b
+unfolding hiddenRefusal
 inside-given begin end b h k w = rw (le-leb begin b h, lt-ltb b end k, lt-ltb b (2 ^ 64) w)
 
 module _ (l : Layout) (v : Valid l) (o : Object) (p i : ℕ) (at : i ≡ ownerOf o (view l)) where
@@ -78,6 +78,6 @@ module _ (l : Layout) (v : Valid l) (o : Object) (p i : ℕ) (at : i ≡ ownerOf
     pub owned : (j : ℕ) → j ≡ positionIn o (recordsOf (readAt l i)) →
         let c = readAt l i in
         let b = fileByte (c .«stripe_size») (c .«stripe_count») j p in
-        answer (hidden (c .begin) (c .end) b) b ≡ backIn (inObject o p) (view l)
+        answer (hiddenRefusal (c .begin) (c .end) b) b ≡ backIn (inObject o p) (view l)
     unfolding backIn backRefusal byteOf fileByteIn
     owned j stripe = rw (owner-elem o (view l), lt-ltb (ownerOf o (view l)) (length (view l)) below, owner-read, stripe)

@@ -14,8 +14,8 @@ use Rattle.lists.specs.Bools.{bool-cases}
 use Rattle.lists.specs.Slices.{sets-append}
 use Rattle.stripe.specs.Stripe.{unitOf, stripeOf, objectByte}
 use Rattle.stripe.specs.Laws.{stripe-below, object-byte-le, unit-next-begin, next-on-next-stripe, next-on-first-stripe}
-use Rattle.mapping.specs.Cutting.{nextUnit, unitCount, pieceFrom, unitPieces, numbersOf, allNumbers}
-use Rattle.mapping.specs.UnitLaws.{next-unit, unit-count-within, unit-count-next, unit-count-last}
+use Rattle.mapping.specs.Cutting.{unitEnd, unitCount, pieceFrom, unitPieces, pieceNumbers, allNumbers}
+use Rattle.mapping.specs.UnitLaws.{unit-end, unit-count-within, unit-count-next, unit-count-last}
 use Rattle.mapping.specs.UnitLaws.{units-next, units-last}
 
 -- What is known of byte a: how many bytes its unit still has, its stripe, the object byte at which its unit begins, and
@@ -57,8 +57,8 @@ module _ {z s a left stripe row byte : ℕ} (hz : 0 < z) (hs : 0 < s) (k : Known
   ends : a % z + left ≡ z
   ends = omega (arith, k .left-is, mod-lt a hz)
 
-  next-is : nextUnit z a ≡ a + left
-  next-is = omega (arith, next-unit z a hz, k .left-is)
+  next-is : unitEnd z a ≡ a + left
+  next-is = omega (arith, unit-end z a hz, k .left-is)
 
   -- The unit still has a byte.
   pub left-some : 0 < left
@@ -105,17 +105,17 @@ module _ {z s a left stripe row byte : ℕ} (hz : 0 < z) (hs : 0 < s) (k : Known
 
     -- The five numbers that the loop stores are those of the piece from a to b.
     piece-stored : (b n : ℕ) {room' : List ℕ} → n ≡ b - a
-        → room' ≡ sets room w (numbersOf record { offset = a; length = n; id = id; stripe = stripe; byte = byte })
-        → room' ≡ sets room w (numbersOf (pieceFrom id z s a b))
+        → room' ≡ sets room w (pieceNumbers record { offset = a; length = n; id = id; stripe = stripe; byte = byte })
+        → room' ≡ sets room w (pieceNumbers (pieceFrom id z s a b))
     piece-stored b n h e = e ∙ rw (h, k .stripe-is, k .byte-is)
 
     -- After the piece that ends with this unit.
     pub written-next : {a' w' : ℕ} {room' : List ℕ} → left < to - a → a' ≡ a + left → w' ≡ w + 5
         → length room' ≡ length room
-        → room' ≡ sets room w (numbersOf record { offset = a; length = left; id = id; stripe = stripe; byte = byte })
+        → room' ≡ sets room w (pieceNumbers record { offset = a; length = left; id = id; stripe = stripe; byte = byte })
         → Written id z s from to at lent a' w' room'
     written-next {room'} h p q l e =
-        let n : nextUnit z a < to = omega (arith, next-is) in
+        let n : unitEnd z a < to = omega (arith, next-is) in
         let c : unitCount z a to ≡ suc (unitCount z (a + left) to) = rw next-is at (unit-count-next z a to hz n) in
         let ps = unitPieces (unitCount z (a + left) to) id z s (a + left) to in
         let u : unitPieces (unitCount z a to) id z s a to ≡ pieceFrom id z s a (a + left) ∷ ps
@@ -126,16 +126,16 @@ module _ {z s a left stripe row byte : ℕ} (hz : 0 < z) (hs : 0 < s) (k : Known
           place = omega (arith, v .place, c);
           stored = v .stored
               ∙ rw (u, piece-stored (a + left) left (omega arith) e)
-              (sets-append room w (numbersOf (pieceFrom id z s a (a + left))) (allNumbers ps));
+              (sets-append room w (pieceNumbers (pieceFrom id z s a (a + left))) (allNumbers ps));
         }
 
     -- After the last piece, which ends at `to`.
     pub written-last : {w' : ℕ} {room' : List ℕ} → to - a ≤ left → w' ≡ w + 5
-        → room' ≡ sets room w (numbersOf record { offset = a; length = to - a; id = id; stripe = stripe; byte = byte })
+        → room' ≡ sets room w (pieceNumbers record { offset = a; length = to - a; id = id; stripe = stripe; byte = byte })
         → (room' ≡ sets lent at (allNumbers (unitPieces (unitCount z from to) id z s from to)))
         × (w' ≡ at + 5 * unitCount z from to)
     written-last h q e =
-        let n : to ≤ nextUnit z a = omega (arith, next-is) in (
+        let n : to ≤ unitEnd z a = omega (arith, next-is) in (
           piece-stored to (to - a) refl e ∙ sym (v .stored ∙ rw (units-last id z s a to hz (v .within) n)),
           omega (arith, q, v .place, unit-count-last z a to hz (v .within) n),
         )

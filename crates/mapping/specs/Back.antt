@@ -31,20 +31,21 @@ ownerOf o (c ∷ cs) = cond (elem sameObject o (recordsOf c)) 0 (suc (ownerOf o 
 abbrev pub owner : Object → List Component → Component
 owner o cs = getD cs (ownerOf o cs) noComponent
 
--- The file byte of object byte p by a component: "where the object is stripe i of its component, ((p / z) x S + i) x z +
--- p mod z, division rounded down".
+-- The file byte of object byte p by a component: "where the object is stripe i of its component, ((p / z) x S + i) x z
+-- + p mod z, division rounded down".
 unfoldable pub fileByteIn : Component → Object → ℕ → ℕ
 fileByteIn c o p = fileByte (c .«stripe_size») (c .«stripe_count») (positionIn o (recordsOf c)) p
 
 -- The number of the refusal of the file byte b that was found back by a component from `begin` to `end`, or 0: 14,
 -- "object byte hidden: its file offset is outside its component, or not below 2^64".
-unfoldable pub hidden : ℕ → ℕ → ℕ → ℕ
-hidden begin end b = cond (leb begin b && ltb b end && ltb b (2 ^ 64)) 0 14
+unfoldable pub hiddenRefusal : ℕ → ℕ → ℕ → ℕ
+hiddenRefusal begin end b = cond (leb begin b && ltb b end && ltb b (2 ^ 64)) 0 14
 
 -- The number of the refusal to go back from a home, or 0: 13, "object not in the layout"; 14, "object byte hidden".
 unfoldable pub backRefusal : Home → List Component → ℕ
 backRefusal (inObject o p) cs =
-    cond (elem sameObject o (recordsIn cs)) (hidden (owner o cs .begin) (owner o cs .end) (fileByteIn (owner o cs) o p)) 13
+    let c = owner o cs in
+    cond (elem sameObject o (recordsIn cs)) (hiddenRefusal (c .begin) (c .end) (fileByteIn c o p)) 13
 
 -- The file byte of a home.
 unfoldable pub byteOf : Home → List Component → ℕ

@@ -1,15 +1,15 @@
 -- The laws of the way back, and that lookup and the way back undo each other.
 use Prim.Native.Nat.{ℕ, zero, suc, _^_, _≤_, _<_}
 use mathlib.Core.Path.{_≡_, refl, sym, ap, _∙_}
-use mathlib.Core.List.{List, [], _∷_, _++_}
-use mathlib.Core.Bool.{Bool, true, _&&_, _||_, false≢true}
+use mathlib.Core.List.{List, [], _∷_}
+use mathlib.Core.Bool.{Bool, true, _&&_, false≢true}
 use mathlib.Core.Option.{Option, some}
 use native.Mathlib.Omega.{arith}
 use lib.Dec.{ltb, leb, leb·suc-suc}
 use lib.ListN.{length, getD}
 use borrow.Author.Tests.{ltb-true, lt-ltb}
 use Rattle.lists.specs.Bools.{bool-cases, both-true, true-both}
-use Rattle.lists.specs.Counting.{elem, count, count-append, count-at, count-once, elem-false, elem-true}
+use Rattle.lists.specs.Counting.{elem, elem-append, elem-at, elem-true, count, count-append, count-once}
 use Rattle.stripe.specs.Laws as striping
 use Rattle.stripe.specs.Stripe.{stripeOf, objectByte}
 use Rattle.layout.specs.declared.Object.{Object}
@@ -27,15 +27,9 @@ use Rattle.mapping.specs.Homes.{Home, inObject, objectFor, homeIn, initA
 use Rattle.mapping.specs.HomeLaws.{home-position, home-at, lookup-home}
 use Rattle.mapping.specs.Lookup.{lookupRefusal, lookupIn, lookupOf}
 use Rattle.mapping.specs.Back.{positionIn, ownerOf, owner, fileByteIn}
-use Rattle.mapping.specs.Back.{hidden, backRefusal, byteOf, backIn, backOf}
+use Rattle.mapping.specs.Back.{hiddenRefusal, backRefusal, byteOf, backIn, backOf}
 
--- The position of an object among object records is at most their number.
-pub position-le : (o : Object) (os : List Object) → positionIn o os ≤ length os
-position-le o [] = omega arith
-position-le o (a ∷ os) =
-    bool-cases (sameObject o a) (λ e. rw e (omega arith)) (λ e. rw e (omega (arith, position-le o os)))
-
--- It is below their number exactly if one of them names the object.
+-- The position of an object among object records is below their number exactly if one of them names it.
 pub position-elem : (o : Object) (os : List Object) → elem sameObject o os ≡ ltb (positionIn o os) (length os)
 position-elem o [] = refl
 position-elem o (a ∷ os) =
@@ -43,33 +37,22 @@ position-elem o (a ∷ os) =
     (λ e. rw e (position-elem o os ∙ sym (leb·suc-suc (suc (positionIn o os)) (length os))))
 
 -- The record at the position then names the object.
-pub position-names : (o : Object) (os : List Object) → positionIn o os < length os
+position-names : (o : Object) (os : List Object) → positionIn o os < length os
     → getD os (positionIn o os) noObject ≡ o
 position-names o [] h = absurd (omega arith)
 position-names o (a ∷ os) h =
     bool-cases (sameObject o a) (λ e. rw e (sym (same-object o a e)))
     (λ e. rw e (position-names o os (omega (arith, rw e at h))))
 
--- An object stands in two lists, one behind the other, exactly if it stands in one of them.
-elem-append : (o : Object) (l m : List Object)
-    → elem sameObject o (l ++ m) ≡ (elem sameObject o l || elem sameObject o m)
-elem-append o [] m = refl
-elem-append o (a ∷ l) m = bool-cases (sameObject o a) (λ e. rw e) (λ e. rw e (elem-append o l m))
-
--- The position of an object's component is at most the number of components.
-pub owner-le : (o : Object) (cs : List Component) → ownerOf o cs ≤ length cs
-owner-le o [] = omega arith
-owner-le o (c ∷ cs) =
-    bool-cases (elem sameObject o (recordsOf c)) (λ e. rw e (omega arith)) (λ e. rw e (omega (arith, owner-le o cs)))
-
--- It is below their number exactly if an object record of the layout names the object.
+-- The position of an object's component is below the number of components exactly if an object record of the layout
+-- names the object.
 pub owner-elem : (o : Object) (cs : List Component) → elem sameObject o (recordsIn cs) ≡ ltb (ownerOf o cs) (length cs)
 owner-elem o [] = refl
 owner-elem o (c ∷ cs) =
+    let either = elem-append sameObject o (recordsOf c) (recordsIn cs) in
     bool-cases (elem sameObject o (recordsOf c))
-    (λ e. rw (elem-append o (recordsOf c) (recordsIn cs), e) (sym (lt-ltb 0 (suc (length cs)) (omega arith))))
-    (λ e. rw (elem-append o (recordsOf c) (recordsIn cs), e)
-    (owner-elem o cs ∙ sym (leb·suc-suc (suc (ownerOf o cs)) (length cs))))
+    (λ e. rw (either, e) (sym (lt-ltb 0 (suc (length cs)) (omega arith))))
+    (λ e. rw (either, e) (owner-elem o cs ∙ sym (leb·suc-suc (suc (ownerOf o cs)) (length cs))))
 
 -- The component at the position then has an object record that names it.
 pub owner-has : (o : Object) (cs : List Component) → ownerOf o cs < length cs
@@ -79,20 +62,14 @@ owner-has o (c ∷ cs) h =
     bool-cases (elem sameObject o (recordsOf c)) (λ e. rw e e)
     (λ e. rw e (owner-has o cs (omega (arith, rw e at h))))
 
--- The object of the record at a place stands among the records.
-elem-at : (os : List Object) (i : ℕ) → i < length os → elem sameObject (getD os i noObject) os ≡ true
-elem-at os i h =
-    let o = getD os i noObject in
-    bool-cases (elem sameObject o os) (λ e. e)
-    (λ e. absurd (omega (arith, elem-false sameObject o os e, count-at sameObject same-object-refl os i noObject h)))
-
--- Where it stands there once, its position is that place.
+-- Where the object of the record at a place stands there once, its position is that place.
 position-at : (os : List Object) (i : ℕ) → i < length os → count sameObject (getD os i noObject) os ≤ 1
     → positionIn (getD os i noObject) os ≡ i
 position-at os i h once =
     let o = getD os i noObject in
     let j = positionIn o os in
-    let below = ltb-true j (length os) (sym (position-elem o os) ∙ elem-at os i h) in
+    let stands = elem-at sameObject same-object-refl os i noObject h in
+    let below = ltb-true j (length os) (sym (position-elem o os) ∙ stands) in
     sym (count-once sameObject same-object-refl os i j noObject h below once (sym (position-names o os below)))
 
 -- The object records of a component stand among those of the layout.
@@ -123,14 +100,16 @@ elem-init o c e = bool-cases (c .init) (λ i. i) (λ i. absurd (false≢true (rw
 -- One init component, its extent not looked at.
 module _ (c : Component) (k : IsInit c) where
   -- The stripe of a byte has an object record.
-  stripe-stands : (b : ℕ) → stripeOf (c .«stripe_size») (c .«stripe_count») b < length (recordsOf c)
+  pub stripe-stands : (b : ℕ) → stripeOf (c .«stripe_size») (c .«stripe_count») b < length (recordsOf c)
   stripe-stands b =
       let stripes : 0 < c .«stripe_count» = omega (arith, k .striped .some) in
       omega (arith, k .records, striping.stripe-below (c .«stripe_size») (c .«stripe_count») b stripes)
 
   -- So the object of its home stands among the component's records.
   object-stands : (b : ℕ) → elem sameObject (objectFor c b) (recordsOf c) ≡ true
-  object-stands b = elem-at (recordsOf c) (stripeOf (c .«stripe_size») (c .«stripe_count») b) (stripe-stands b)
+  object-stands b =
+      let i = stripeOf (c .«stripe_size») (c .«stripe_count») b in
+      elem-at sameObject same-object-refl (recordsOf c) i noObject (stripe-stands b)
 
   -- Back from the home of a byte is that byte, where its object stands among the component's records once.
   back-in : (b : ℕ) → count sameObject (objectFor c b) (recordsOf c) ≤ 1
@@ -151,9 +130,9 @@ module _ (c : Component) (k : IsInit c) where
       rw (r .0, r .1, position-names o (recordsOf c) h)
 
 -- A file byte that is not hidden lies in the extent.
-not-hidden : (begin end b : ℕ) → hidden begin end b ≡ 0 → (leb begin b && ltb b end) ≡ true
-unfolding hidden
-not-hidden begin end b e =
+not-hiddenRefusal : (begin end b : ℕ) → hiddenRefusal begin end b ≡ 0 → (leb begin b && ltb b end) ≡ true
+unfolding hiddenRefusal
+not-hiddenRefusal begin end b e =
     let within = leb begin b && ltb b end in
     bool-cases (within && ltb b (2 ^ 64)) (λ q. both-true within (ltb b (2 ^ 64)) q .0)
     (λ q. absurd (omega (arith, rw q at e)))
@@ -167,7 +146,7 @@ not-refused o p cs e =
     bool-cases (elem sameObject o (recordsIn cs))
     (λ q. (
       ltb-true (ownerOf o cs) (length cs) (sym (owner-elem o cs) ∙ q),
-      not-hidden (c .begin) (c .end) (fileByteIn c o p) (rw q at e),
+      not-hiddenRefusal (c .begin) (c .end) (fileByteIn c o p) (rw q at e),
     ))
     (λ q. absurd (omega (arith, rw q at e)))
 
@@ -178,7 +157,7 @@ module _ {more : Bool} {cs : List Component} (k : Keeps more cs) where
   back-at : (b i : ℕ) → i < length cs → initAt b (getD cs i noComponent) ≡ true
       → (byteOf (homeIn (getD cs i noComponent) b) cs ≡ b)
       × (b < 2 ^ 64 → backRefusal (homeIn (getD cs i noComponent) b) cs ≡ 0)
-  unfolding homeIn byteOf backRefusal hidden
+  unfolding homeIn byteOf backRefusal hiddenRefusal
   back-at b i h e =
       let c = getD cs i noComponent in
       let o = objectFor c b in

@@ -1,7 +1,7 @@
 -- The pieces of a request in components that stand end to end: they tile the request, and each is a piece of one of
 -- the components. So no cut place lies strictly inside a piece, a piece ends at a cut place or where the request ends,
 -- and its bytes have the homes that it tells.
-use Prim.Native.Nat.{ℕ, _+_, _-_, _*_, _/_, _%_, _≤_, _<_}
+use Prim.Native.Nat.{ℕ, zero, suc, _+_, _-_, _*_, _/_, _%_, _≤_, _<_}
 use mathlib.Core.Path.{_≡_, refl, ap, _∙_}
 use mathlib.Core.List.{List, [], _∷_}
 use mathlib.Core.Bool.{Bool, true, false, not, and-false, or-true}
@@ -10,25 +10,28 @@ use mathlib.Core.Option.{some}
 use native.Mathlib.Omega.{arith}
 use native.Mathlib.Nat.{div-add-mod'}
 use lib.Dec.{eqb}
-use lib.ListN.{getD}
+use lib.ListN.{length, getD, getElem?}
 use borrow.Author.Tests.{lt-ltb, le-ltb, le-leb, lt-leb, eq-eqb, ne-eqb}
 use Rattle.lists.specs.Bools.{both-false}
 use Rattle.lists.specs.Tests.{anyOf, after}
 use Rattle.lists.specs.Counting.{count}
 use Rattle.stripe.specs.Stripe.{unitOf}
 use Rattle.stripe.specs.Laws.{unit-within, stripe-within, object-byte-within}
+use Rattle.layout.specs.declared.Object.{Object}
 use Rattle.layout.specs.declared.Component.{Component}
 use Rattle.layout.specs.Records.{noObject, recordsOf, idsOf, neighboursOf}
 use Rattle.layout.specs.Neighbours.{endOf}
 use Rattle.layout.specs.Holder.{lastEnd}
 use Rattle.layout.specs.Facts.{Kind, Fields, Linked, Keeps}
-use Rattle.layout.specs.FactLaws.{kind-ordered}
+use Rattle.layout.specs.FactLaws.{kind-ordered, kind-init}
 use Rattle.mapping.specs.declared.Piece.{Piece}
 use Rattle.mapping.specs.Homes.{inObject, homeIn, initAt, homeOf}
-use Rattle.mapping.specs.Cutting.{partPieces, piecesOf, notInitAsked}
+use Rattle.mapping.specs.Spans.{spanOf, spansOf}
+use Rattle.mapping.specs.Cutting.{partPieces, piecesOf, notInitAsked, cutPieces}
 use Rattle.mapping.specs.CutPlaces.{cutsAt, cutPlace}
 use Rattle.mapping.specs.CutFacts.{Each, Tiles, Uncut, AtHome}
 use Rattle.mapping.specs.Acceptance.{Accepted}
+use Rattle.mapping.specs.BackLaws.{stripe-stands}
 use Rattle.mapping.specs.TileLaws.{each-append, each-map, tiles-append}
 use Rattle.mapping.specs.UnitCutLaws.{PieceOf, cutTo, cut-to-start, cut-to-end, part-cut}
 
@@ -40,13 +43,13 @@ PieceIn b (c ∷ cs) p = PieceOf b c p ⊎ PieceIn b cs p
 -- The pieces in components that stand end to end from `at` on, where the request is not refused: they tile what is not
 -- yet cut of it there.
 pieces-from : (a b at : ℕ) (may : Bool) (cs : List Component) → Linked false at may cs → Fields cs
-    → anyOf (notInitAsked a b) cs ≡ false → cutTo a b (after endOf at (neighboursOf cs)) ≡ b
-    → Tiles (cutTo a b at) b (piecesOf a b cs) × Each (PieceIn b cs) (piecesOf a b cs)
+    → anyOf (notInitAsked a b) (spansOf cs) ≡ false → cutTo a b (after endOf at (neighboursOf cs)) ≡ b
+    → Tiles (cutTo a b at) b (piecesOf a b (spansOf cs)) × Each (PieceIn b cs) (piecesOf a b (spansOf cs))
 pieces-from a b at may [] k f u e = (e, tt)
 pieces-from a b at may (c ∷ cs) k f u e =
-    let v = both-false (notInitAsked a b c) (anyOf (notInitAsked a b) cs) u in
-    let ps = partPieces a b c in
-    let qs = piecesOf a b cs in
+    let v = both-false (notInitAsked a b (spanOf c)) (anyOf (notInitAsked a b) (spansOf cs)) u in
+    let ps = partPieces a b (spanOf c) in
+    let qs = piecesOf a b (spansOf cs) in
     let x = part-cut a b c (f .1) (v .0) in
     let y = pieces-from a b (c .end) (not (c .extension)) cs (k .3) (f .2) (v .1) e in (
       rw (← k .0) (tiles-append (cutTo a b (c .begin)) (cutTo a b (c .end)) b ps qs (x .0) (y .0)),
@@ -116,6 +119,12 @@ module _ (b : ℕ) (c : Component) (p : Piece) (k : PieceOf b c p) where
         let u : p .offset % z + d < z = omega (arith, k .unit) in
         rw (stripe-within z s (p .offset) d u, object-byte-within z s (p .offset) d u, k .stripe, k .byte)
 
+-- The object record at a place below the end.
+record-at : (os : List Object) (i : ℕ) → i < length os → getElem? os i ≡ some (getD os i noObject)
+record-at [] i h = absurd (omega arith)
+record-at (o ∷ os) zero h = refl
+record-at (o ∷ os) (suc i) h = record-at os i (omega arith)
+
 -- Components that stand end to end from `at` on do not cut the file before `at`.
 none-before : (at : ℕ) (may : Bool) (cs : List Component) → Linked false at may cs → Fields cs
     → (q : ℕ) → q < at → cutPlace cs q ≡ false
@@ -172,20 +181,29 @@ module _ (b : ℕ) (p : Piece) where
       → ((i : ℕ) → count eqb i (idsOf cs) ≤ 1) → PieceIn b cs p → AtHome cs p
   unfolding homeOf
   home-from at may [] k f i h = absurd h
-  home-from at may (c ∷ cs) k f i (inl h) = λ d l.
-      rw (piece-held b c p h d l, eq-eqb (p .id) (c .id) (h .id)) (ap some (piece-home b c p h d l))
-  home-from at may (c ∷ cs) k f i (inr h) = λ d l.
+  home-from at may (c ∷ cs) k f i (inl h) =
+      let t = stripe-stands c (kind-init (f .1) (h .init)) (p .offset) in
+      record {
+        object = getD (recordsOf c) (p .stripe) noObject;
+        named = rw (eq-eqb (p .id) (c .id) (h .id)) (record-at (recordsOf c) (p .stripe) (omega (arith, h .stripe)));
+        home = λ d l. rw (piece-held b c p h d l) (ap some (piece-home b c p h d l));
+      }
+  home-from at may (c ∷ cs) k f i (inr h) =
       let o = begins-after (c .end) (not (c .extension)) cs (k .3) (f .2) h in
       let n = id-stands cs h in
       let other : (p .id ≡ c .id → ⊥) = λ e. omega (arith, rw (eq-eqb (p .id) (c .id) e) at (i (p .id))) in
-      rw (le-ltb (p .offset + d) (c .end) (omega arith), and-false, and-false, ne-eqb (p .id) (c .id) other)
-      (home-from (c .end) (not (c .extension)) cs (k .3) (f .2) (λ j. omega (arith, i j)) h d l)
+      let r = home-from (c .end) (not (c .extension)) cs (k .3) (f .2) (λ j. omega (arith, i j)) h in
+      record {
+        object = r .object;
+        named = rw (ne-eqb (p .id) (c .id) other) (r .named);
+        home = λ d l. rw (le-ltb (p .offset + d) (c .end) (omega arith), and-false, and-false) (r .home d l);
+      }
 
 -- The same of components that keep the rules.
 module _ (cs : List Component) (k : Keeps false cs) where
   -- The pieces of a request that is accepted tile it, and each is a piece of one of the components.
-  pub pieces-in : (a m n : ℕ) → Accepted a m n cs
-      → Tiles a (a + m) (piecesOf a (a + m) cs) × Each (PieceIn (a + m) cs) (piecesOf a (a + m) cs)
+  pub pieces-in : (a m n : ℕ) → Accepted (lastEnd cs) a m n (spansOf cs)
+      → Tiles a (a + m) (cutPieces a m cs) × Each (PieceIn (a + m) cs) (cutPieces a m cs)
   pieces-in a m n h =
       rw (cut-to-start a (a + m) (omega arith)) at
       (pieces-from a (a + m) 0 false cs (k .linked) (k .fields) (h .all-init)

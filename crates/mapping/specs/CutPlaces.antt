@@ -8,8 +8,8 @@ use Rattle.lists.specs.Counting.{bit}
 use Rattle.layout.specs.declared.Component.{Component}
 use Rattle.layout.specs.Holder.{holds}
 
--- The file is cut before byte q on account of a component: q is a border of it, or q lies in it and is a multiple of its
--- stripe size.
+-- The file is cut before byte q on account of a component: q is a border of it, or q lies in it and is a multiple of
+-- its stripe size.
 abbrev pub cutsAt : ℕ → Component → Bool
 cutsAt q c = eqb q (c .begin) || eqb q (c .end) || holds c q && eqb (q % c .«stripe_size») 0
 
@@ -23,6 +23,6 @@ countAfter test a zero = 0
 countAfter test a (suc n) = countAfter test a n + bit (test (a + suc n))
 
 -- "the number of different cut places strictly inside the request plus one, or 0 for length 0"
-abbrev pub cutPlacesIn : ℕ → ℕ → List Component → ℕ
-cutPlacesIn a zero cs = 0
-cutPlacesIn a (suc m) cs = countAfter (cutPlace cs) a m + 1
+abbrev pub countByPlaces : ℕ → ℕ → List Component → ℕ
+countByPlaces a zero cs = 0
+countByPlaces a (suc m) cs = countAfter (cutPlace cs) a m + 1

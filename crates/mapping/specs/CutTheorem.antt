@@ -15,14 +15,17 @@ use Rattle.layout.specs.declared.Component.{Component}
 use Rattle.layout.specs.declared.Layout.{Layout}
 use Rattle.layout.specs.Records.{view}
 use Rattle.layout.specs.Rules.{valid}
+use Rattle.layout.specs.Holder.{lastEnd}
 use Rattle.layout.specs.Facts.{Keeps}
 use Rattle.layout.specs.FactLaws.{valid-facts}
 use Rattle.mapping.specs.declared.Piece.{Piece}
 use Rattle.mapping.specs.Answers.{gives}
 use Rattle.mapping.specs.AnswerLaws.{answer-gives, checked-gives}
+use Rattle.mapping.specs.declared.Span.{Span}
+use Rattle.mapping.specs.Spans.{spansOf}
 use Rattle.mapping.specs.Cutting.{partBegin, partEnd, touches, piecesOf, pieceCount, notInitAsked, tooMany}
-use Rattle.mapping.specs.Cutting.{cutRefusal, cutOf}
-use Rattle.mapping.specs.CutPlaces.{cutPlace, countAfter, cutPlacesIn}
+use Rattle.mapping.specs.Cutting.{refusalBy, cutRefusal, cutPieces, cutCount, cutOf}
+use Rattle.mapping.specs.CutPlaces.{cutPlace, countAfter, countByPlaces}
 use Rattle.mapping.specs.CutFacts.{Uncut, AtHome, Cut}
 use Rattle.mapping.specs.UnitLaws.{lower-le-left, higher-ge-left, length-units}
 use Rattle.mapping.specs.Acceptance.{accepted-facts}
@@ -31,9 +34,9 @@ use Rattle.mapping.specs.UnitCutLaws.{untouched-none}
 use Rattle.mapping.specs.CutLaws.{PieceIn, ends-asked, ends-cut, pieces-in, uncut-in, home-in}
 
 -- The pieces are as many as they are counted.
-length-pieces : (a b : ℕ) (cs : List Component) → length (piecesOf a b cs) ≡ pieceCount a b cs
+length-pieces : (a b : ℕ) (xs : List Span) → length (piecesOf a b xs) ≡ pieceCount a b xs
 length-pieces a b [] = refl
-length-pieces a b (c ∷ cs) = rw (length-append, length-units, length-pieces a b cs)
+length-pieces a b (c ∷ xs) = rw (length-append, length-units, length-pieces a b xs)
 
 module _ (cs : List Component) (k : Keeps false cs) where
   -- A cut place, or b, where the request ends.
@@ -53,21 +56,21 @@ module _ (cs : List Component) (k : Keeps false cs) where
       }
 
   -- Past the request's begin, and up to its end, there are one more of them than cut places strictly inside it.
-  stop-count : (a m : ℕ) → countAfter (stop (a + m)) a m ≡ cutPlacesIn a m cs
+  stop-count : (a m : ℕ) → countAfter (stop (a + m)) a m ≡ countByPlaces a m cs
   stop-count a zero = refl
   stop-count a (suc m) =
       rw (
         eq-eqb (a + suc m) (a + suc m) refl,
         count-same (stop (a + suc m)) (cutPlace cs) a m (λ q l r. rw (ne-eqb q (a + suc m) (λ i. omega arith))),
-      )
+      ) refl
 
   -- The theorem over components that keep the rules.
-  pub cut-in : (a m n : ℕ) → cutRefusal a m n cs ≡ 0 → Cut a m (pieceCount a (a + m) cs) cs (piecesOf a (a + m) cs)
+  pub cut-in : (a m n : ℕ) → cutRefusal a m n cs ≡ 0 → Cut a m (cutCount a m cs) cs (cutPieces a m cs)
   cut-in a m n e =
       let b = a + m in
-      let ps = piecesOf a b cs in
-      let r = pieces-in cs k a m n (accepted-facts a m n cs e) in
-      let l = sym (length-pieces a b cs) in
+      let ps = cutPieces a m cs in
+      let r = pieces-in cs k a m n (accepted-facts (lastEnd cs) a m n (spansOf cs) e) in
+      let l = sym (length-pieces a b (spansOf cs)) in
       let s = each-map (PieceIn b cs) (EndsAt (stop b)) (ends-at b) ps (r .1) in
       record {
         counted = l;
@@ -82,32 +85,33 @@ module _ (cs : List Component) (k : Keeps false cs) where
 -- component border and no multiple of the component's stripe size lies strictly inside one; and each tells the homes of
 -- its bytes.
 pub cut-right : (l : Layout) (a m n k : ℕ) → cutOf a m n l ≡ gives k
-    → Cut a m k (view l) (piecesOf a (a + m) (view l))
+    → Cut a m k (view l) (cutPieces a m (view l))
 unfolding cutOf
 cut-right l a m n k e =
     let cs = view l in
-    let p = checked-gives l (cutRefusal a m n cs) (pieceCount a (a + m) cs) k e in
-    let q = answer-gives (cutRefusal a m n cs) (pieceCount a (a + m) cs) k (p .1) in
+    let p = checked-gives l (cutRefusal a m n cs) (cutCount a m cs) k e in
+    let q = answer-gives (cutRefusal a m n cs) (cutCount a m cs) k (p .1) in
     rw (q .1) at (cut-in cs (valid-facts l (p .0) .keeps) a m n (q .0))
 
 -- A request of no bytes has none in a component,
-untouched : (a : ℕ) (c : Component) → touches a a c ≡ false
+untouched : (a : ℕ) (c : Span) → touches a a c ≡ false
 untouched a c =
     le-ltb (partBegin a c) (partEnd a c) (omega (arith, lower-le-left a (c .end), higher-ge-left a (c .begin)))
 
 -- so none in a component that is not init,
-none-asked : (a : ℕ) (cs : List Component) → anyOf (notInitAsked a a) cs ≡ false
+none-asked : (a : ℕ) (xs : List Span) → anyOf (notInitAsked a a) xs ≡ false
 none-asked a [] = refl
-none-asked a (c ∷ cs) = rw (untouched a c, and-false, none-asked a cs)
+none-asked a (c ∷ xs) = rw (untouched a c, and-false, none-asked a xs)
 
 -- and no pieces.
-pub no-pieces : (a : ℕ) (cs : List Component) → piecesOf a a cs ≡ []
+pub no-pieces : (a : ℕ) (xs : List Span) → piecesOf a a xs ≡ []
 no-pieces a [] = refl
-no-pieces a (c ∷ cs) = rw (untouched-none a a c (untouched a c), no-pieces a cs)
+no-pieces a (c ∷ xs) = rw (untouched-none a a c (untouched a c), no-pieces a xs)
 
 -- "Length 0 on a valid layout gives no pieces, wherever it points."
 pub cut-empty : (l : Layout) (a n : ℕ) → valid l ≡ true → a < 2 ^ 64 → cutOf a 0 n l ≡ gives 0
-unfolding cutOf cutRefusal tooMany
+unfolding cutOf refusalBy tooMany
 cut-empty l a n v h =
-    let none : pieceCount a a (view l) ≡ 0 = sym (length-pieces a a (view l)) ∙ ap length (no-pieces a (view l)) in
-    rw (v, add-zero a, le-ltb (2 ^ 64 - 1) a (omega arith), none-asked a (view l), none, le-ltb (n / 5) 0 (omega arith))
+    let xs = spansOf (view l) in
+    let none : pieceCount a a xs ≡ 0 = sym (length-pieces a a xs) ∙ ap length (no-pieces a xs) in
+    rw (v, add-zero a, le-ltb (2 ^ 64 - 1) a (omega arith), none-asked a xs, none, le-ltb (n / 5) 0 (omega arith))

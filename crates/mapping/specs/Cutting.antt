@@ -11,21 +11,24 @@ use Rattle.layout.specs.declared.Component.{Component}
 use Rattle.layout.specs.declared.Layout.{Layout}
 use Rattle.layout.specs.Records.{view}
 use Rattle.layout.specs.Holder.{lastEnd}
+use Rattle.mapping.specs.declared.Span.{Span}
 use Rattle.mapping.specs.declared.Piece.{Piece}
 use Rattle.mapping.specs.declared.CutOut.{CutOut}
 use Rattle.mapping.specs.declared.CutOut.the-variants.{Pieces, Refused}
+use Rattle.mapping.specs.Spans.{spansOf}
 use Rattle.mapping.specs.Answers.{Answer, gives, refuses, answer, checked}
 
--- The lower and the higher of two numbers.
+-- The lower of two numbers.
 unfoldable pub lower : ℕ → ℕ → ℕ
 lower a b = cond (ltb a b) a b
 
+-- The higher of two numbers.
 unfoldable pub higher : ℕ → ℕ → ℕ
 higher a b = cond (ltb a b) b a
 
--- The first multiple of z above a.
-unfoldable pub nextUnit : ℕ → ℕ → ℕ
-nextUnit z a = (unitOf z a + 1) * z
+-- Where the unit of byte a ends: the first multiple of z above a.
+unfoldable pub unitEnd : ℕ → ℕ → ℕ
+unitEnd z a = (unitOf z a + 1) * z
 
 -- How many units of z bytes have a byte among those from a to b, b not among them.
 unfoldable pub unitCount : ℕ → ℕ → ℕ → ℕ
@@ -37,77 +40,92 @@ abbrev pub pieceFrom : ℕ → ℕ → ℕ → ℕ → ℕ → Piece
 pieceFrom id z s a b =
     record { offset = a; length = b - a; id = id; stripe = stripeOf z s a; byte = objectByte z s a }
 
--- The first n pieces from a to b of a component: each ends at the next multiple of the stripe size or at b, whichever is
--- lower, and the next begins there.
+-- The first n pieces from a to b of a component: each ends at the next multiple of the stripe size or at b, whichever
+-- is lower, and the next begins there.
 abbrev pub unitPieces : ℕ → ℕ → ℕ → ℕ → ℕ → ℕ → List Piece
 unitPieces zero id z s a b = []
 unitPieces (suc n) id z s a b =
-    pieceFrom id z s a (lower (nextUnit z a) b) ∷ unitPieces n id z s (lower (nextUnit z a) b) b
+    pieceFrom id z s a (lower (unitEnd z a) b) ∷ unitPieces n id z s (lower (unitEnd z a) b) b
 
--- Where the part of the request from a to b begins and ends that lies in a component.
-abbrev pub partBegin : ℕ → Component → ℕ
+-- Where the part of a request begins that lies in a component; the request begins at a.
+abbrev pub partBegin : ℕ → Span → ℕ
 partBegin a c = higher a (c .begin)
 
-abbrev pub partEnd : ℕ → Component → ℕ
+-- Where that part ends; the request ends at b.
+abbrev pub partEnd : ℕ → Span → ℕ
 partEnd b c = lower b (c .end)
 
 -- A byte of the request from a to b lies in the component.
-abbrev pub touches : ℕ → ℕ → Component → Bool
+abbrev pub touches : ℕ → ℕ → Span → Bool
 touches a b c = ltb (partBegin a c) (partEnd b c)
 
--- The number of pieces of the request from a to b in one component, which is init: one for each unit.
-abbrev pub partCount : ℕ → ℕ → Component → ℕ
+-- The number of pieces of the request from a to b in one component: one for each unit where it is init, else none.
+abbrev pub partCount : ℕ → ℕ → Span → ℕ
 partCount a b c = cond (c .init) (unitCount (c .«stripe_size») (partBegin a c) (partEnd b c)) 0
 
--- Those pieces. A request that has bytes in a component that is not init is refused.
-abbrev pub partPieces : ℕ → ℕ → Component → List Piece
+-- Those pieces.
+abbrev pub partPieces : ℕ → ℕ → Span → List Piece
 partPieces a b c =
     unitPieces (partCount a b c) (c .id) (c .«stripe_size») (c .«stripe_count») (partBegin a c) (partEnd b c)
 
--- The pieces of the request from a to b: "A request (offset, length) is cut at every component border and every multiple
--- of the component's stripe size, also where S is 1." "Pieces stand in file order".
-abbrev pub piecesOf : ℕ → ℕ → List Component → List Piece
+-- The pieces of the request from a to b: "A request (offset, length) is cut at every component border and every
+-- multiple of the component's stripe size, also where S is 1." "Pieces stand in file order".
+abbrev pub piecesOf : ℕ → ℕ → List Span → List Piece
 piecesOf a b [] = []
 piecesOf a b (c ∷ cs) = partPieces a b c ++ piecesOf a b cs
 
 -- How many they are.
-abbrev pub pieceCount : ℕ → ℕ → List Component → ℕ
+abbrev pub pieceCount : ℕ → ℕ → List Span → ℕ
 pieceCount a b [] = 0
 pieceCount a b (c ∷ cs) = partCount a b c + pieceCount a b cs
 
 -- A byte of the request from a to b lies in the component, and that is not init.
-abbrev pub notInitAsked : ℕ → ℕ → Component → Bool
+abbrev pub notInitAsked : ℕ → ℕ → Span → Bool
 notInitAsked a b c = not (c .init) && touches a b c
 
 -- More pieces than 256 or than the room, of which n numbers were lent: "Room is the lent length / 5 rounded down".
 unfoldable pub tooMany : ℕ → ℕ → Bool
 tooMany n pieces = ltb 256 pieces || ltb (n / 5) pieces
 
--- The number of the refusal to cut the request of m bytes from offset a into n lent numbers, or 0: 9, "offset + length
--- above 2^64 - 1"; 10, "a byte asked for lies at or past the last component's end"; 11, "a byte asked for lies in a
--- component that is not init"; 12, "more pieces than 256 or than the lent room".
-unfoldable pub cutRefusal : ℕ → ℕ → ℕ → List Component → ℕ
-cutRefusal a m n cs =
+-- The number of the refusal to cut the request of m bytes from offset a into n lent numbers, or 0, of components whose
+-- last one ends at `end`: 9, "offset + length above 2^64 - 1"; 10, "a byte asked for lies at or past the last
+-- component's end"; 11, "a byte asked for lies in a component that is not init"; 12, "more pieces than 256 or than the
+-- lent room".
+unfoldable pub refusalBy : ℕ → ℕ → ℕ → ℕ → List Span → ℕ
+refusalBy end a m n xs =
     cond (ltb (2 ^ 64 - 1) (a + m)) 9
-    (cond (ltb 0 m && ltb (lastEnd cs) (a + m)) 10
-    (cond (anyOf (notInitAsked a (a + m)) cs) 11
-    (cond (tooMany n (pieceCount a (a + m) cs)) 12 0)))
+    (cond (ltb 0 m && ltb end (a + m)) 10
+    (cond (anyOf (notInitAsked a (a + m)) xs) 11
+    (cond (tooMany n (pieceCount a (a + m) xs)) 12 0)))
+
+-- The same of a list of components.
+abbrev pub cutRefusal : ℕ → ℕ → ℕ → List Component → ℕ
+cutRefusal a m n cs = refusalBy (lastEnd cs) a m n (spansOf cs)
+
+-- The pieces of the request of m bytes from offset a.
+abbrev pub cutPieces : ℕ → ℕ → List Component → List Piece
+cutPieces a m cs = piecesOf a (a + m) (spansOf cs)
+
+-- How many they are.
+abbrev pub cutCount : ℕ → ℕ → List Component → ℕ
+cutCount a m cs = pieceCount a (a + m) (spansOf cs)
 
 -- The number of pieces, or a refusal number, of components that keep the rules.
 unfoldable pub cutIn : ℕ → ℕ → ℕ → List Component → Answer ℕ
-cutIn a m n cs = answer (cutRefusal a m n cs) (pieceCount a (a + m) cs)
+cutIn a m n cs = answer (cutRefusal a m n cs) (cutCount a m cs)
 
 -- The same of any layout, 1 where it is not valid.
 unfoldable pub cutOf : ℕ → ℕ → ℕ → Layout → Answer ℕ
-cutOf a m n l = answer (checked l (cutRefusal a m n (view l))) (pieceCount a (a + m) (view l))
+cutOf a m n l = answer (checked l (cutRefusal a m n (view l))) (cutCount a m (view l))
 
--- The five numbers of a piece, and those of pieces one after another.
-abbrev pub numbersOf : Piece → List ℕ
-numbersOf p = p .offset ∷ p .length ∷ p .id ∷ p .stripe ∷ p .byte ∷ []
+-- The five numbers of a piece.
+abbrev pub pieceNumbers : Piece → List ℕ
+pieceNumbers p = p .offset ∷ p .length ∷ p .id ∷ p .stripe ∷ p .byte ∷ []
 
+-- The numbers of pieces, one piece after another.
 abbrev pub allNumbers : List Piece → List ℕ
 allNumbers [] = []
-allNumbers (p ∷ ps) = numbersOf p ++ allNumbers ps
+allNumbers (p ∷ ps) = pieceNumbers p ++ allNumbers ps
 
 -- The lent numbers under the number of a refusal, or under 0: as they were, or with the pieces in the first of them;
 -- "numbers past the pieces stay".

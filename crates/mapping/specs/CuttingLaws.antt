@@ -2,20 +2,35 @@
 -- list of components are written as, and the answer and the lent numbers under the number of a refusal.
 use Prim.Native.Nat.{ℕ, zero, suc, _+_, _*_}
 use mathlib.Core.Path.{_≡_, refl, sym, ap, _∙_}
-use mathlib.Core.List.{List, _∷_}
+use mathlib.Core.List.{List, [], _∷_}
 use mathlib.Core.Bool.{Bool, true, false, cond}
+use native.Mathlib.Omega.{arith}
 use lib.ListN.{length}
 use lib.Seq.{sets}
 use Rattle.lists.specs.Slices.{sets-append}
 use Rattle.layout.specs.declared.Component.{Component}
+use Rattle.layout.specs.Facts.{IsInit, Fields}
+use Rattle.layout.specs.FactLaws.{kind-init}
+use Rattle.mapping.specs.declared.Span.{Span}
 use Rattle.mapping.specs.declared.Piece.{Piece}
-use Rattle.mapping.specs.Answers.{gives, refuses}
+use Rattle.mapping.specs.Answers.{gives, refuses, answer}
 use Rattle.mapping.specs.AnswerLaws.{answer-refused}
+use Rattle.mapping.specs.Spans.{spansOf}
 use Rattle.mapping.specs.Cutting.{unitCount, partBegin, partEnd, partCount, partPieces, piecesOf, pieceCount}
-use Rattle.mapping.specs.Cutting.{cutRefusal, cutIn, allNumbers, roomAfter}
+use Rattle.mapping.specs.Cutting.{refusalBy, allNumbers, roomAfter}
+use Rattle.mapping.specs.Spans.{AllCuttable}
 use Rattle.mapping.specs.UnitLaws.{length-units, length-numbers, numbers-append}
 
-module _ (a b : ℕ) (c : Component) where
+-- Components that keep the rule of the fields can be cut.
+pub fields-cuttable : (cs : List Component) → Fields cs → AllCuttable (spansOf cs)
+fields-cuttable [] f = tt
+fields-cuttable (c ∷ cs) f =
+    let init : c .init ≡ true → IsInit c = λ i. kind-init (f .1) i in (
+      λ i. let k = init i .striped in (omega (arith, k .size .nonzero, k .size .multiple), k .some),
+      fields-cuttable cs (f .2),
+    )
+
+module _ (a b : ℕ) (c : Span) where
   -- The number of pieces of a component by its init flag.
   abbrev countBy : Bool → ℕ
   countBy init = cond init (unitCount (c .«stripe_size») (partBegin a c) (partEnd b c)) 0
@@ -37,10 +52,10 @@ module _ (a b : ℕ) (c : Component) where
   length-part = length-numbers (partPieces a b c) ∙ rw length-units
 
   -- The pieces of a list of components are written one component behind the other.
-  pub pieces-next : (room : List ℕ) (at : ℕ) (cs : List Component)
-      → sets room at (allNumbers (piecesOf a b (c ∷ cs)))
-      ≡ sets (sets room at (allNumbers (partPieces a b c))) (at + 5 * partCount a b c) (allNumbers (piecesOf a b cs))
-  pieces-next room at cs = rw (numbers-append, sets-append, length-part)
+  pub pieces-next : (room : List ℕ) (at : ℕ) (xs : List Span)
+      → sets room at (allNumbers (piecesOf a b (c ∷ xs)))
+      ≡ sets (sets room at (allNumbers (partPieces a b c))) (at + 5 * partCount a b c) (allNumbers (piecesOf a b xs))
+  pieces-next room at xs = rw (numbers-append, sets-append, length-part)
 
 -- Under the number of a refusal all lent numbers stay.
 room-refused : (n : ℕ) (ps : List Piece) (room : List ℕ) → (n ≡ 0 → ⊥) → room ≡ roomAfter n ps room
@@ -49,19 +64,18 @@ room-refused zero ps room h = absurd (h refl)
 room-refused (suc n) ps room h = refl
 
 -- The request of m bytes from offset a, under the number r of its refusal or 0.
-module _ (a m : ℕ) (cs : List Component) (room : List ℕ) (r : ℕ) (e : r ≡ cutRefusal a m (length room) cs) where
+module _ (end a m : ℕ) (xs : List Span) (room : List ℕ) (r : ℕ) (e : r ≡ refusalBy end a m (length room) xs) where
   -- A request that is refused.
   pub cut-refused : (r ≡ 0 → ⊥)
-      → (refuses r ≡ cutIn a m (length room) cs)
-      × (room ≡ roomAfter (cutRefusal a m (length room) cs) (piecesOf a (a + m) cs) room)
-  unfolding cutIn
+      → (refuses r ≡ answer (refusalBy end a m (length room) xs) (pieceCount a (a + m) xs))
+      × (room ≡ roomAfter (refusalBy end a m (length room) xs) (piecesOf a (a + m) xs) room)
   cut-refused h =
-      rw (← e) (answer-refused r (pieceCount a (a + m) cs) h, room-refused r (piecesOf a (a + m) cs) room h)
+      rw (← e) (answer-refused r (pieceCount a (a + m) xs) h, room-refused r (piecesOf a (a + m) xs) room h)
 
   -- A request that is accepted.
   pub cut-accepted : r ≡ 0
-      → (gives (pieceCount a (a + m) cs) ≡ cutIn a m (length room) cs)
-      × (sets room 0 (allNumbers (piecesOf a (a + m) cs))
-      ≡ roomAfter (cutRefusal a m (length room) cs) (piecesOf a (a + m) cs) room)
-  unfolding cutIn roomAfter
+      → (gives (pieceCount a (a + m) xs) ≡ answer (refusalBy end a m (length room) xs) (pieceCount a (a + m) xs))
+      × (sets room 0 (allNumbers (piecesOf a (a + m) xs))
+      ≡ roomAfter (refusalBy end a m (length room) xs) (piecesOf a (a + m) xs) room)
+  unfolding roomAfter
   cut-accepted h = rw (← e, h) (refl, refl)

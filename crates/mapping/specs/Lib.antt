@@ -2,6 +2,7 @@ pub mod Answers
 pub mod Homes
 pub mod Lookup
 pub mod Back
+pub mod Spans
 pub mod Cutting
 pub mod CutPlaces
 pub mod CutFacts
@@ -9,6 +10,7 @@ pub mod AnswerLaws
 pub mod HomeLaws
 pub mod BackLaws
 pub mod UnitLaws
+pub mod AskedLaws
 pub mod Acceptance
 pub mod TileLaws
 pub mod UnitCutLaws

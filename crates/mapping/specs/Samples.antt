@@ -13,9 +13,10 @@ use Rattle.mapping.specs.declared.Piece.{Piece}
 use Rattle.mapping.specs.Answers.{Answer, gives, refuses}
 use Rattle.mapping.specs.Homes.{Home, inObject, homeIn, homeOf}
 use Rattle.mapping.specs.Lookup.{lookupRefusal, lookupIn}
-use Rattle.mapping.specs.Back.{fileByteIn, hidden, backRefusal, byteOf, backIn}
-use Rattle.mapping.specs.Cutting.{lower, higher, nextUnit, unitCount, tooMany, cutRefusal, cutIn, piecesOf}
-use Rattle.mapping.specs.CutPlaces.{cutPlace, cutPlacesIn}
+use Rattle.mapping.specs.Back.{fileByteIn, hiddenRefusal, backRefusal, byteOf, backIn}
+use Rattle.mapping.specs.Spans.{spansOf}
+use Rattle.mapping.specs.Cutting.{lower, higher, unitEnd, unitCount, piecesOf, tooMany, refusalBy, cutIn}
+use Rattle.mapping.specs.CutPlaces.{cutPlace, countByPlaces}
 
 -- Lookup of a byte of layout A.
 unfoldable pub asked : ℕ → Answer (Option Home)
@@ -30,8 +31,8 @@ at target number p = inObject (objectOf target number) p
 abbrev pub home : ℕ → ℕ → ℕ → Answer (Option Home)
 home target number p = gives (some (at target number p))
 
--- a to f: "id 1, stripe 0, byte 2,097,151"; "id 2, stripe 2, byte 0"; "id 2, stripe 0, byte 1,048,581"; "id 2, stripe 0,
--- byte 6,291,455"; "11"; "10".
+-- a to f: "id 1, stripe 0, byte 2,097,151"; "id 2, stripe 2, byte 0"; "id 2, stripe 0, byte 1,048,581"; "id 2, stripe
+-- 0, byte 6,291,455"; "11"; "10".
 pub lookups : map asked (2097151 ∷ 2097152 ∷ 3145733 ∷ 16777215 ∷ 16777216 ∷ eof ∷ [])
     ≡ home 0 10 2097151 ∷ home 3 13 0 ∷ home 1 11 1048581 ∷ home 1 11 6291455 ∷ refuses 11 ∷ refuses 10 ∷ []
 unfolding asked
@@ -39,7 +40,7 @@ lookups = refl
 
 -- Back from a home in layout A.
 unfoldable pub wayBack : Home → Answer ℕ
-unfolding backIn backRefusal byteOf hidden fileByteIn fileByte sameObject packObjects initOf bareOf layoutA
+unfolding backIn backRefusal byteOf hiddenRefusal fileByteIn fileByte sameObject packObjects initOf bareOf layoutA
 wayBack h = backIn h layoutA
 
 -- g and h: back from "id 2 stripe 1 byte 1M" is "4,194,304", and from "byte 0" it is "14"; an object that is not in the
@@ -53,30 +54,30 @@ abbrev pub piece : ℕ → ℕ → ℕ → ℕ → ℕ → Piece
 piece offset length id stripe byte =
     record { offset = offset; length = length; id = id; stripe = stripe; byte = byte }
 
--- The pieces of a request of m bytes of layout A.
-unfoldable pub cutPieces : ℕ → ℕ → List Piece
-unfolding lower higher nextUnit unitCount unitOf stripeOf objectByte packObjects initOf bareOf layoutA
-cutPieces a b = piecesOf a b layoutA
+-- The pieces of the request from a to b of layout A.
+unfoldable pub cutFrom : ℕ → ℕ → List Piece
+unfolding lower higher unitEnd unitCount unitOf stripeOf objectByte packObjects initOf bareOf layoutA
+cutFrom a b = piecesOf a b (spansOf layoutA)
 
 -- i: "(2097150, 2, 1, 0, 2097150), (2097152, 2, 2, 2, 0)".
-pub pieces : cutPieces 2097150 2097154 ≡ piece 2097150 2 1 0 2097150 ∷ piece 2097152 2 2 2 0 ∷ []
-unfolding cutPieces
+pub pieces : cutFrom 2097150 2097154 ≡ piece 2097150 2 1 0 2097150 ∷ piece 2097152 2 2 2 0 ∷ []
+unfolding cutFrom
 pieces = refl
 
 -- The number of pieces of a request of m bytes of layout A, with 10 numbers lent.
-unfoldable pub cutCount : ℕ → ℕ → Answer ℕ
-unfolding cutIn cutRefusal tooMany lower higher unitCount unitOf packObjects initOf bareOf layoutA
-cutCount a m = cutIn a m 10 layoutA
+unfoldable pub counted : ℕ → ℕ → Answer ℕ
+unfolding cutIn refusalBy tooMany lower higher unitCount unitOf packObjects initOf bareOf layoutA
+counted a m = cutIn a m 10 layoutA
 
-pub counts : (cutCount 2097150 4 ≡ gives 2) × (cutCount 2097150 0 ≡ gives 0) × (cutCount eof 1 ≡ refuses 9)
-    × (cutCount (eof - 1) 1 ≡ refuses 11) × (cutCount 0 (mega 2) ≡ gives 2) × (cutCount 0 (mega 3) ≡ refuses 12)
-unfolding cutCount
+pub counts : (counted 2097150 4 ≡ gives 2) × (counted 2097150 0 ≡ gives 0) × (counted eof 1 ≡ refuses 9)
+    × (counted (eof - 1) 1 ≡ refuses 11) × (counted 0 (mega 2) ≡ gives 2) × (counted 0 (mega 3) ≡ refuses 12)
+unfolding counted
 counts = (refl, refl, refl, refl, refl, refl)
 
 -- The cut places strictly inside a request of layout A, and one more.
 unfoldable pub places : ℕ → ℕ → ℕ
 unfolding cutPlace packObjects initOf bareOf layoutA
-places a m = cutPlacesIn a m layoutA
+places a m = countByPlaces a m layoutA
 
 pub place-counts : (places 2097150 4 ≡ 2) × (places 2097152 4 ≡ 1) × (places 1048574 3 ≡ 2) × (places 5 0 ≡ 0)
 unfolding places

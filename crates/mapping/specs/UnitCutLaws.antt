@@ -14,12 +14,15 @@ use Rattle.stripe.specs.Laws.{unit-next-begin}
 use Rattle.layout.specs.declared.Component.{Component}
 use Rattle.layout.specs.Facts.{Kind}
 use Rattle.layout.specs.FactLaws.{kind-init, kind-ordered}
+use Rattle.mapping.specs.declared.Span.{Span}
 use Rattle.mapping.specs.declared.Piece.{Piece}
-use Rattle.mapping.specs.Cutting.{lower, higher, nextUnit, unitCount, pieceFrom, unitPieces, partBegin, partEnd}
+use Rattle.mapping.specs.Cutting.{lower, higher, unitEnd, unitCount, pieceFrom, unitPieces, partBegin, partEnd}
+use Rattle.mapping.specs.Spans.{spanOf}
 use Rattle.mapping.specs.Cutting.{touches, partCount, partPieces, notInitAsked}
 use Rattle.mapping.specs.CutPlaces.{cutsAt}
 use Rattle.mapping.specs.CutFacts.{Each, Tiles}
-use Rattle.mapping.specs.UnitLaws.{lower-left, lower-right, higher-right, next-unit, unit-count-none}
+use Rattle.mapping.specs.UnitLaws.{lower-by, higher-by, lower-left, lower-right, higher-right}
+use Rattle.mapping.specs.UnitLaws.{unit-end, unit-count-none}
 use Rattle.mapping.specs.UnitLaws.{units-next, units-last}
 
 -- A piece of component c, out of a request that ends at b.
@@ -50,19 +53,19 @@ cuts-unit c q h k e =
     rw (le-leb (c .begin) q h, lt-ltb q (c .end) k, eq-eqb (q % c .«stripe_size») 0 e, or-true)
 
 -- The first multiple of z above x is above x, and a multiple of z.
-next-unit-above : (z x : ℕ) → 0 < z → x < nextUnit z x
-next-unit-above z x h = omega (arith, next-unit z x h, mod-lt x h)
+unit-end-above : (z x : ℕ) → 0 < z → x < unitEnd z x
+unit-end-above z x h = omega (arith, unit-end z x h, mod-lt x h)
 
-next-unit-multiple : (z x : ℕ) → 0 < z → nextUnit z x % z ≡ 0
-next-unit-multiple z x h =
-    rw (next-unit z x h) (unit-next-begin z x (z - x % z) h (omega (arith, mod-lt x h)))
+unit-end-multiple : (z x : ℕ) → 0 < z → unitEnd z x % z ≡ 0
+unit-end-multiple z x h =
+    rw (unit-end z x h) (unit-next-begin z x (z - x % z) h (omega (arith, mod-lt x h)))
 
 module _ (b : ℕ) (c : Component) (init : c .init ≡ true) (sized : 0 < c .«stripe_size») where
   abbrev z : ℕ
   z = c .«stripe_size»
 
   -- The piece from x to e, where e is not past the end of x's unit, before the pieces from e to y.
-  piece-before : (x e y : ℕ) (ps : List Piece) → c .begin ≤ x → x < e → e ≤ nextUnit z x → e ≤ c .end → e ≤ b
+  piece-before : (x e y : ℕ) (ps : List Piece) → c .begin ≤ x → x < e → e ≤ unitEnd z x → e ≤ c .end → e ≤ b
       → (e < b → cutsAt e c ≡ true) → TilesOf b c e y ps
       → TilesOf b c x y (pieceFrom (c .id) z (c .«stripe_count») x e ∷ ps)
   piece-before x e y ps from h unit to asked stops r =
@@ -76,7 +79,7 @@ module _ (b : ℕ) (c : Component) (init : c .init ≡ true) (sized : 0 < c .«s
             byte = refl;
             from = from;
             to = omega arith;
-            unit = omega (arith, next-unit z x sized, mod-lt x sized);
+            unit = omega (arith, unit-end z x sized, mod-lt x sized);
             asked = omega arith;
             stops = rw w stops;
           },
@@ -91,32 +94,24 @@ module _ (b : ℕ) (c : Component) (init : c .init ≡ true) (sized : 0 < c .«s
   units-cut y to asked stops zero x k from h = absurd (omega arith)
   units-cut y to asked stops (suc n) x k from h =
       let s = c .«stripe_count» in
-      let e = nextUnit z x in
-      let above = next-unit-above z x sized in
+      let e = unitEnd z x in
+      let above = unit-end-above z x sized in
       bool-cases (ltb e y)
       (λ t. let l = ltb-true e y t in
       let ps = unitPieces (unitCount z e y) (c .id) z s e y in
       rw (units-next (c .id) z s x y sized l)
       (piece-before x e y ps from above (omega arith) (omega arith) (omega arith)
-      (λ m. cuts-unit c e (omega arith) (omega arith) (next-unit-multiple z x sized))
+      (λ m. cuts-unit c e (omega arith) (omega arith) (unit-end-multiple z x sized))
       (units-cut y to asked stops n e (omega arith) (omega arith) l)))
       (λ t. let l = ltb-false e y t in
       rw (units-last (c .id) z s x y sized h l) (piece-before x y y [] from h l to asked stops (refl, tt)))
 
--- The lower and the higher of two numbers, in a form that arithmetic reads.
-lower-by : (a b : ℕ) → lower a b ≡ a - (a - b)
-unfolding lower
-lower-by a b =
-    cond-elim (λ n. n ≡ a - (a - b)) (ltb a b)
-    (λ e. omega (arith, ltb-true a b e))
-    (λ e. omega (arith, ltb-false a b e))
-
-higher-by : (a b : ℕ) → higher a b ≡ a + (b - a)
-unfolding higher
-higher-by a b =
-    cond-elim (λ n. n ≡ a + (b - a)) (ltb a b)
-    (λ e. omega (arith, ltb-true a b e))
-    (λ e. omega (arith, ltb-false a b e))
+-- A component that has no byte of the request has no pieces.
+pub untouched-none : (a b : ℕ) (c : Span) → touches a b c ≡ false → partCount a b c ≡ 0
+untouched-none a b c t =
+    let x = partBegin a c in
+    let y = partEnd b c in
+    cond-elim (λ n. n ≡ 0) (c .init) (λ i. unit-count-none (c .«stripe_size») x y (ltb-false x y t)) (λ i. refl)
 
 -- How far the request from a to b is cut by the components that end at or before `at`.
 abbrev pub cutTo : ℕ → ℕ → ℕ → ℕ
@@ -147,42 +142,36 @@ module _ (a b : ℕ) where
 
   module _ (c : Component) where
     -- The part of the request that lies in the component ends where the request ends or at the component's end.
-    stops-part : partEnd b c < b → cutsAt (partEnd b c) c ≡ true
+    stops-part : partEnd b (spanOf c) < b → cutsAt (partEnd b (spanOf c)) c ≡ true
     unfolding lower
     stops-part =
         cond-elim (λ q. q < b → cutsAt q c ≡ true) (ltb b (c .end)) (λ e l. absurd (omega arith)) (λ e l. cuts-end c)
 
     -- The pieces in a component that has bytes of the request.
-    touched-cut : Kind c → touches a b c ≡ true → c .init ≡ true
-        → TilesOf b c (partBegin a c) (partEnd b c) (partPieces a b c)
+    touched-cut : Kind c → touches a b (spanOf c) ≡ true → c .init ≡ true
+        → TilesOf b c (partBegin a (spanOf c)) (partEnd b (spanOf c)) (partPieces a b (spanOf c))
     touched-cut k t i =
-        let x = partBegin a c in
-        let y = partEnd b c in
+        let x = partBegin a (spanOf c) in
+        let y = partEnd b (spanOf c) in
         let l = lower-by b (c .end) in
-        let n : partCount a b c ≡ unitCount (c .«stripe_size») x y
+        let n : partCount a b (spanOf c) ≡ unitCount (c .«stripe_size») x y
         = ap (λ u. cond u (unitCount (c .«stripe_size») x y) 0) i in
         rw n
         (units-cut b c i (kind-init k i .striped .size .nonzero) y (omega arith) (omega arith) stops-part
         y x (omega arith) (omega (arith, higher-by a (c .begin))) (ltb-true x y t))
 
-    -- A component that has none has no pieces.
-    pub untouched-none : touches a b c ≡ false → partCount a b c ≡ 0
-    untouched-none t =
-        let x = partBegin a c in
-        let y = partEnd b c in
-        cond-elim (λ n. n ≡ 0) (c .init) (λ i. unit-count-none (c .«stripe_size») x y (ltb-false x y t)) (λ i. refl)
-
     -- The pieces in a component tile what the component adds to the part of the request that is cut.
-    pub part-cut : Kind c → notInitAsked a b c ≡ false
-        → TilesOf b c (cutTo a b (c .begin)) (cutTo a b (c .end)) (partPieces a b c)
+    pub part-cut : Kind c → notInitAsked a b (spanOf c) ≡ false
+        → TilesOf b c (cutTo a b (c .begin)) (cutTo a b (c .end)) (partPieces a b (spanOf c))
     part-cut k u =
-        let x = partBegin a c in
-        let y = partEnd b c in
-        bool-cases (touches a b c)
+        let x = partBegin a (spanOf c) in
+        let y = partEnd b (spanOf c) in
+        bool-cases (touches a b (spanOf c))
         (λ t. let l = ltb-true x y t in
         let m = lower-by b (c .end) in
         let above : a ≤ c .end = omega (arith, higher-by a (c .begin)) in
         let v : cutTo a b (c .begin) ≡ x = lower-right b x (omega arith) in
         let w : cutTo a b (c .end) ≡ y = ap (λ n. lower b n) (higher-right a (c .end) above) in
         rw (v, w) (touched-cut k t (not-false (c .init) (rw (t, and-true) at u))))
-        (λ t. rw (cut-to-stays (c .begin) (c .end) (kind-ordered k) (ltb-false x y t), untouched-none t) (refl, tt))
+        (λ t. let stays = cut-to-stays (c .begin) (c .end) (kind-ordered k) (ltb-false x y t) in
+        rw (stays, untouched-none a b (spanOf c) t) (refl, tt))

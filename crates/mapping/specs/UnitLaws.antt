@@ -13,8 +13,8 @@ use Rattle.lists.specs.Bools.{cond-elim}
 use Rattle.stripe.specs.Stripe.{unitOf}
 use Rattle.stripe.specs.Laws.{unit-next}
 use Rattle.mapping.specs.declared.Piece.{Piece}
-use Rattle.mapping.specs.Cutting.{lower, higher, nextUnit, unitCount, pieceFrom, unitPieces}
-use Rattle.mapping.specs.Cutting.{numbersOf, allNumbers}
+use Rattle.mapping.specs.Cutting.{lower, higher, unitEnd, unitCount, pieceFrom, unitPieces}
+use Rattle.mapping.specs.Cutting.{pieceNumbers, allNumbers}
 
 -- The lower and the higher of a and b, by their order.
 module _ (a b : ℕ) where
@@ -26,35 +26,38 @@ module _ (a b : ℕ) where
   unfolding lower
   lower-right h = rw (le-ltb a b h)
 
-  pub higher-left : b ≤ a → higher a b ≡ a
-  unfolding higher
-  higher-left h = rw (le-ltb a b h)
-
   pub higher-right : a ≤ b → higher a b ≡ b
   unfolding higher
   higher-right h = cond-elim (λ (n : ℕ). n ≡ b) (ltb a b) (λ e. refl) (λ e. omega (arith, ltb-false a b e))
 
-  -- The lower is at most each of the two, the higher at least each of them.
+  -- The lower is at most the first of them, the higher at least that.
   pub lower-le-left : lower a b ≤ a
   unfolding lower
   lower-le-left = cond-elim (λ (n : ℕ). n ≤ a) (ltb a b) (λ e. omega arith) (λ e. ltb-false a b e)
-
-  pub lower-le-right : lower a b ≤ b
-  unfolding lower
-  lower-le-right = cond-elim (λ (n : ℕ). n ≤ b) (ltb a b) (λ e. omega (arith, ltb-true a b e)) (λ e. omega arith)
 
   pub higher-ge-left : a ≤ higher a b
   unfolding higher
   higher-ge-left = cond-elim (λ (n : ℕ). a ≤ n) (ltb a b) (λ e. omega (arith, ltb-true a b e)) (λ e. omega arith)
 
-  pub higher-ge-right : b ≤ higher a b
-  unfolding higher
-  higher-ge-right = cond-elim (λ (n : ℕ). b ≤ n) (ltb a b) (λ e. omega arith) (λ e. ltb-false a b e)
+  -- The same in a form that arithmetic reads.
+  pub lower-by : lower a b ≡ a - (a - b)
+  unfolding lower
+  lower-by =
+      cond-elim (λ n. n ≡ a - (a - b)) (ltb a b)
+      (λ e. omega (arith, ltb-true a b e))
+      (λ e. omega (arith, ltb-false a b e))
 
--- The first multiple of z above a is as many bytes on as the unit of a still has.
-pub next-unit : (z a : ℕ) → 0 < z → nextUnit z a ≡ a + (z - a % z)
-unfolding nextUnit unitOf
-next-unit z a hz = omega (arith, div-add-mod' a z, add-mul (a / z) 1 z, mod-lt a hz)
+  pub higher-by : higher a b ≡ a + (b - a)
+  unfolding higher
+  higher-by =
+      cond-elim (λ n. n ≡ a + (b - a)) (ltb a b)
+      (λ e. omega (arith, ltb-true a b e))
+      (λ e. omega (arith, ltb-false a b e))
+
+-- The unit of a ends as many bytes on as it still has.
+pub unit-end : (z a : ℕ) → 0 < z → unitEnd z a ≡ a + (z - a % z)
+unfolding unitEnd unitOf
+unit-end z a hz = omega (arith, div-add-mod' a z, add-mul (a / z) 1 z, mod-lt a hz)
 
 -- Where there is no byte from a to b, there is no unit.
 pub unit-count-none : (z a b : ℕ) → b ≤ a → unitCount z a b ≡ 0
@@ -76,21 +79,21 @@ unit-count-within z a b hz h =
     unit-count-some z a b h ∙ omega (arith, q)
 
 -- Where b lies in the unit of a or at its end, that unit is the only one.
-pub unit-count-last : (z a b : ℕ) → 0 < z → a < b → b ≤ nextUnit z a → unitCount z a b ≡ 1
+pub unit-count-last : (z a b : ℕ) → 0 < z → a < b → b ≤ unitEnd z a → unitCount z a b ≡ 1
 unit-count-last z a b hz h k =
-    let e : a % z + (b - a - 1) < z = omega (arith, next-unit z a hz, mod-lt a hz) in
+    let e : a % z + (b - a - 1) < z = omega (arith, unit-end z a hz, mod-lt a hz) in
     unit-count-within z a b hz h ∙ omega (arith, div-eq-of-lt e)
 
 -- Where b lies behind the unit of a, there are that unit and those from the next one on.
-pub unit-count-next : (z a b : ℕ) → 0 < z → nextUnit z a < b → unitCount z a b ≡ suc (unitCount z (nextUnit z a) b)
-unfolding unitOf nextUnit
+pub unit-count-next : (z a b : ℕ) → 0 < z → unitEnd z a < b → unitCount z a b ≡ suc (unitCount z (unitEnd z a) b)
+unfolding unitOf unitEnd
 unit-count-next z a b hz h =
     let r = mod-lt a hz in
     let d : a % z + (z - a % z) ≡ z = omega arith in
-    let u : unitOf z (nextUnit z a) ≡ unitOf z a + 1 = rw (next-unit z a hz) (unit-next z a (z - a % z) hz d) in
+    let u : unitOf z (unitEnd z a) ≡ unitOf z a + 1 = rw (unit-end z a hz) (unit-next z a (z - a % z) hz d) in
     let l : unitOf z a + 1 ≤ unitOf z (b - 1) = le-div-iff-mul-le hz .1 (omega arith) in
-    let n : a < nextUnit z a = omega (arith, next-unit z a hz) in
-    omega (arith, unit-count-some z a b (omega arith), unit-count-some z (nextUnit z a) b h)
+    let n : a < unitEnd z a = omega (arith, unit-end z a hz) in
+    omega (arith, unit-count-some z a b (omega arith), unit-count-some z (unitEnd z a) b h)
 
 -- With a stripe size of at least 65,536, no file has more than 2^48 units.
 pub unit-count-bound : (z a b : ℕ) → 65536 ≤ z → b < 2 ^ 64 → unitCount z a b ≤ 2 ^ 48
@@ -103,18 +106,18 @@ unit-count-bound z a b hz hb =
 -- The first n pieces are n.
 pub length-units : (n id z s a b : ℕ) → length (unitPieces n id z s a b) ≡ n
 length-units zero id z s a b = refl
-length-units (suc n) id z s a b = ap suc (length-units n id z s (lower (nextUnit z a) b) b)
+length-units (suc n) id z s a b = ap suc (length-units n id z s (lower (unitEnd z a) b) b)
 
 -- Where b lies behind the unit of a, the first piece ends with that unit.
-pub units-next : (id z s a b : ℕ) → 0 < z → nextUnit z a < b →
+pub units-next : (id z s a b : ℕ) → 0 < z → unitEnd z a < b →
     unitPieces (unitCount z a b) id z s a b
-    ≡ pieceFrom id z s a (nextUnit z a) ∷ unitPieces (unitCount z (nextUnit z a) b) id z s (nextUnit z a) b
-units-next id z s a b hz h = rw (unit-count-next z a b hz h, lower-left (nextUnit z a) b (omega arith))
+    ≡ pieceFrom id z s a (unitEnd z a) ∷ unitPieces (unitCount z (unitEnd z a) b) id z s (unitEnd z a) b
+units-next id z s a b hz h = rw (unit-count-next z a b hz h, lower-left (unitEnd z a) b (omega arith)) refl
 
 -- Where b lies in the unit of a or at its end, there is one piece, and it ends at b.
-pub units-last : (id z s a b : ℕ) → 0 < z → a < b → b ≤ nextUnit z a →
+pub units-last : (id z s a b : ℕ) → 0 < z → a < b → b ≤ unitEnd z a →
     unitPieces (unitCount z a b) id z s a b ≡ pieceFrom id z s a b ∷ []
-units-last id z s a b hz h k = rw (unit-count-last z a b hz h k, lower-right (nextUnit z a) b k)
+units-last id z s a b hz h k = rw (unit-count-last z a b hz h k, lower-right (unitEnd z a) b k)
 
 -- A piece is five numbers.
 pub length-numbers : (ps : List Piece) → length (allNumbers ps) ≡ 5 * length ps
@@ -124,4 +127,4 @@ length-numbers (p ∷ ps) = omega (arith, length-numbers ps)
 -- The numbers of two runs of pieces, one behind the other.
 pub numbers-append : (ps qs : List Piece) → allNumbers (ps ++ qs) ≡ allNumbers ps ++ allNumbers qs
 numbers-append [] qs = refl
-numbers-append (p ∷ ps) qs = ap (λ (ns : List ℕ). numbersOf p ++ ns) (numbers-append ps qs)
+numbers-append (p ∷ ps) qs = ap (λ (ns : List ℕ). pieceNumbers p ++ ns) (numbers-append ps qs)

@@ -9,8 +9,7 @@ ghost use Rattle.mapping.specs.Answers.{checked};
 ghost use Rattle.mapping.specs.Homes.{inObject};
 ghost use Rattle.mapping.specs.Lookup.{lookupSays, lookupOf};
 ghost use Rattle.mapping.specs.Back.{backSays, backOf};
-ghost use Rattle.mapping.specs.Cutting.{cutSays, cutOf, cutRefusal, piecesOf, roomAfter};
-ghost use Prim.Native.Nat.{_+_};
+ghost use Rattle.mapping.specs.Cutting.{cutSays, cutOf, cutRefusal, cutPieces, roomAfter};
 
 pub mod cutting;
 pub mod homes;
@@ -46,6 +45,16 @@ pub enum CutOut {
     Pieces(u64),
     // Refused, by this number.
     Refused(u8),
+}
+
+// A component as cutting sees it: its init flag, its id, its extent [begin, end) and its striping.
+pub struct Span {
+    pub init: bool,
+    pub id: u16,
+    pub begin: u64,
+    pub end: u64,
+    pub stripe_count: u16,
+    pub stripe_size: u32,
 }
 
 // A piece of a request: its first file byte and its length, the id of its component, the stripe, counted from 0, and
@@ -91,7 +100,7 @@ pub fn cut(l: Layout, offset: u64, bytes: u64, room: &mut [u64]) -> CutOut
         × (now (room .exit)
         ≡ roomAfter
         (checked l (cutRefusal offset bytes (length lent) (view l)))
-        (piecesOf offset (offset + bytes) (view l))
+        (cutPieces offset bytes (view l))
         lent)) ⌝ }
 {
     if !layout::is_valid(l) {

@@ -12,7 +12,7 @@ ghost use Rattle.layout.specs.Rows.{objectOf};
 ghost use Rattle.layout.specs.Rules.{valid};
 ghost use Rattle.mapping.specs.Answers.{answer};
 ghost use Rattle.mapping.specs.Homes.{inObject};
-ghost use Rattle.mapping.specs.Back.{positionIn, ownerOf, hidden, backSays, backIn};
+ghost use Rattle.mapping.specs.Back.{positionIn, ownerOf, hiddenRefusal, backSays, backIn};
 
 // The position of the component's first object record with this target and number, or the number of its records.
 pub fn position_in(c: Component, target: u32, number: u64) -> usize
@@ -51,7 +51,7 @@ fn owner_of(l: Layout, target: u32, number: u64) -> usize
 // outside the component's extent or not below 2^64.
 pub fn byte_within(begin: u64, end: u64, z: u32, s: u16, i: u16, p: u64) -> BackOut
     requires { ⌜ (0 < z) × (0 < s) ⌝ }
-    ensures { λ r. ⌜ backSays r ≡ (let b = fileByte z s i p in answer (hidden begin end b) b) ⌝ }
+    ensures { λ r. ⌜ backSays r ≡ (let b = fileByte z s i p in answer (hiddenRefusal begin end b) b) ⌝ }
 {
     match stripe::file_byte(z, s, i, p) {
         FileByte::Past => BackOut::Refused(14),

@@ -6,7 +6,7 @@ ghost use mathlib.Core.Bool.{cond};
 ghost use lib.Dec.{eqb};
 ghost use lib.ListN.{length};
 ghost use lib.Seq.{sets};
-ghost use Rattle.mapping.specs.Cutting.{unitCount, unitPieces, numbersOf, allNumbers};
+ghost use Rattle.mapping.specs.Cutting.{unitCount, unitPieces, pieceNumbers, allNumbers};
 
 // The number of pieces of the bytes from `from` to `to`, which is not among them, by the stripe size: one for each unit
 // that has a byte among them. Stripe sizes are at least 65,536.
@@ -29,7 +29,7 @@ pub fn unit_count(z: u32, from: u64, to: u64) -> u64
 // Writes the five numbers of a piece from place `at` on.
 fn put_piece(room: &mut [u64], at: usize, p: Piece)
     requires { ⌜ at + 5 ≤ length (now room) ⌝ }
-    ensures { λ _. ⌜ now (room .exit) ≡ sets (now (room .entry)) at (numbersOf p) ⌝ }
+    ensures { λ _. ⌜ now (room .exit) ≡ sets (now (room .entry)) at (pieceNumbers p) ⌝ }
 {
     room[at] = p.offset;
     room[at + 1] = p.length;
@@ -62,7 +62,7 @@ fn next_row(row: u64, stripe: u64, s: u64, size: u64) -> u64
 }
 
 // Writes the pieces of the bytes from `from` to `to`, which is not among them, from place `at` on, and gives the place
-// behind them. `row` is the object byte at which the unit of byte `a` begins.
+// behind them.
 pub fn put_units(room: &mut [u64], at: usize, id: u16, z: u32, s: u16, from: u64, to: u64) -> usize
     requires { ⌜ (0 < z)
         × (0 < s)
@@ -76,6 +76,7 @@ pub fn put_units(room: &mut [u64], at: usize, id: u16, z: u32, s: u16, from: u64
     let count = s as u64;
     let unit = from / size;
     let within = from % size;
+    // The object byte at which the unit of byte `a` begins.
     let mut row = unit / count * size;
     let mut stripe = unit % count;
     let mut byte = row + within;

@@ -1,14 +1,19 @@
--- `mapping::cutting::part_count` meets its contract: an init component has a piece for each of its units in the request.
+-- `mapping::cutting::part_count` meets its contract: an init component has a piece for each of its units in the
+-- request.
+use borrow.Author.Needs.{needs}
+use Rattle.mapping.proofs.cutting.part_count.Statement.{statement}
+use Rattle.mapping.proofs.cutting.part_count.Tie as tie
+use Rattle.mapping.proofs.cutting.part_count.Reads as reads
+use Rattle.mapping.proofs.cutting.part_count.Lts as lts
+use Rattle.mapping.proofs.cutting.higher_of.Reads as higher-of-reads
+use Rattle.mapping.proofs.cutting.lower_of.Reads as lower-of-reads
+use Rattle.mapping.proofs.units.unit_count.Reads as unit-count-reads
 use mathlib.Core.Path.{_≡_, refl, sym, _∙_}
 use mathlib.Core.Bool.{true, false}
 use native.Mathlib.Omega.{arith}
 use borrow.Author.Tests.{not-true, not-false}
-use Rattle.layout.specs.FactLaws.{kind-init}
 use Rattle.mapping.specs.Cutting.{unitCount, partBegin, partEnd}
 use Rattle.mapping.specs.CuttingLaws.{part-not-init, part-init}
-use borrow.Author.Needs.{needs}
-use Rattle.mapping.proofs.cutting.part_count.Statement.{statement}
-use Rattle.mapping.proofs.cutting.part_count.Tie as tie
 
 returns : tie.Need-returns
 returns c =
@@ -21,9 +26,7 @@ init : (c : tie.Else1) → c .before .before .args .c .init ≡ true
 init c = not-false (c .before .before .args .c .init) (c .if1 .left)
 
 unit-count-requires : tie.Need-unit-count-requires
-unit-count-requires c κs =
-    let k = kind-init (c .before .before .before .before .pre) (init (c .before .before)) in
-    omega (arith, k .striped .size .nonzero, k .striped .size .multiple)
+unit-count-requires c κs = c .before .before .before .before .pre (init (c .before .before)) .0
 
 returns-2 : tie.Need-returns-2
 returns-2 c =

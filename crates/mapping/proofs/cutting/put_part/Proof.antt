@@ -1,10 +1,10 @@
--- `mapping::cutting::put_part` meets its contract: the pieces of an init component are those of its units in the request.
+-- `mapping::cutting::put_part` meets its contract: the pieces of an init component are those of its units in the
+-- request.
 use mathlib.Core.Path.{_≡_, sym, _∙_}
 use mathlib.Core.Bool.{true}
 use native.Mathlib.Omega.{arith}
 use denote.Ref.{now}
 use borrow.Author.Tests.{not-true, not-false}
-use Rattle.layout.specs.FactLaws.{kind-init}
 use Rattle.mapping.specs.Cutting.{unitCount, partCount}
 use Rattle.mapping.specs.UnitLaws.{unit-count-none}
 use Rattle.mapping.specs.CuttingLaws.{part-not-init, part-init, part-none}
@@ -46,8 +46,8 @@ put-units-requires : tie.Need-put-units-requires
 put-units-requires c κs =
     let to = c .before .before in
     let s = to .before .before .before .before .before in
-    let k = kind-init (s .pre .0) (init (to .before .before)) in
-    (k .striped .size .nonzero, k .striped .some, omega arith, omega (arith, part to, s .pre .1))
+    let k = s .pre .0 (init (to .before .before)) in
+    (omega (arith, k .0), k .1, omega arith, omega (arith, part to, s .pre .1))
 
 returns-3 : tie.Need-returns-3
 returns-3 c =

@@ -4,9 +4,9 @@ use mathlib.Core.Path.{_≡_, sym}
 use native.Mathlib.Nat.{mod-le, mod-lt}
 use native.Mathlib.Omega.{arith}
 use borrow.Author.Needs.{needs}
-use Rattle.mapping.specs.UnitLaws.{next-unit, unit-count-none, unit-count-last, unit-count-within}
+use Rattle.mapping.specs.UnitLaws.{unit-end, unit-count-none, unit-count-last, unit-count-within}
 use Rattle.mapping.specs.UnitLaws.{unit-count-bound}
-use Rattle.mapping.specs.Cutting.{nextUnit, unitCount}
+use Rattle.mapping.specs.Cutting.{unitEnd, unitCount}
 use Rattle.mapping.proofs.units.unit_count.Statement.{statement}
 use Rattle.mapping.proofs.units.unit_count.Tie as tie
 
@@ -18,7 +18,7 @@ returns c =
 returns-2 : tie.Need-returns-2
 returns-2 c =
     let a = c .before .before .args in
-    let h : a .to ≤ nextUnit (a .z) (a .from) = omega (arith, next-unit (a .z) (a .from) (omega arith)) in
+    let h : a .to ≤ unitEnd (a .z) (a .from) = omega (arith, unit-end (a .z) (a .from) (omega arith)) in
     (sym (unit-count-last (a .z) (a .from) (a .to) (omega arith) (omega arith) h), search needs)
 
 add-result : tie.Need-add-result

@@ -41,7 +41,7 @@ loop-again c =
     let p = c .before .before in
     let s = p .before .before in
     let next = component-next (s .args .t1) (facts s) unread (p .loop .i) (c .before .loop-test .taken) in
-    (omega arith, p .loop .inv .1, p .loop .inv .2 ∙ rw (next, add-one))
+    (omega arith, p .loop .inv .1, p .loop .inv .2 ∙ rw (next, add-one) refl)
 
 sub-last : tie.Need-sub-last Inv-loop μ-loop
 sub-last c = omega (arith, facts (c .before .before .before) .some)

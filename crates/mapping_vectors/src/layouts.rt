@@ -56,14 +56,14 @@ fn extension(v: [u64; 40]) -> Component {
 
 // The place behind the next space.
 fn next_word(s: &[u8], from: usize, to: usize) -> usize {
-    std::num::wrapping_add_usize(text::find(s, from, to, b' '), 1)
+    std::num::wrapping_add_usize(case_text::find(s, from, to, b' '), 1)
 }
 
 // The component of the line from `from` to `to`, whose fourth word is `init`, `bare` or `extension`.
 fn component(s: &[u8], from: usize, to: usize) -> Component {
     let v = text::numbers(s, from, to);
     let kind = next_word(s, next_word(s, next_word(s, from, to), to), to);
-    match text::byte_at(s, kind) {
+    match case_text::byte_at(s, kind) {
         b'i' => striped(v, true),
         b'b' => striped(v, false),
         _ => extension(v),
@@ -73,7 +73,7 @@ fn component(s: &[u8], from: usize, to: usize) -> Component {
 // The layout whose definition goes on at `from`, behind its name.
 pub(crate) fn defined(s: &[u8], from: usize) -> Layout {
     let to = s.len();
-    let mut end = text::find(s, from, to, b'\n');
+    let mut end = case_text::find(s, from, to, b'\n');
     let v = text::numbers(s, from, end);
     let mut l = layout::no_layout();
     l.generation = (v[2] % 4294967296) as u32;
@@ -81,10 +81,10 @@ pub(crate) fn defined(s: &[u8], from: usize) -> Layout {
     let mut i: usize = 0;
     while i < 16 {
         let at = std::num::wrapping_add_usize(end, 1);
-        if text::byte_at(s, at) < b'0' {
+        if case_text::byte_at(s, at) < b'0' {
             return l;
         }
-        end = text::find(s, at, to, b'\n');
+        end = case_text::find(s, at, to, b'\n');
         l.components[i] = component(s, at, end);
         i += 1;
     }
@@ -98,7 +98,7 @@ pub(crate) fn definitions(s: &[u8]) -> [usize; 32] {
     let mut at: usize = 0;
     let mut i: usize = 0;
     while i < 32 {
-        at = text::find(s, at, to, b'$');
+        at = case_text::find(s, at, to, b'$');
         places[i] = at;
         at = std::num::wrapping_add_usize(at, 1);
         i += 1;
@@ -114,7 +114,7 @@ pub(crate) fn definition(s: &[u8], definitions: [usize; 32], name: usize) -> usi
     while i < 32 {
         let next = std::num::wrapping_add_usize(definitions[i], 1);
         if text::is_word(s, next, name) {
-            return text::find(s, next, to, b' ');
+            return case_text::find(s, next, to, b' ');
         }
         i += 1;
     }

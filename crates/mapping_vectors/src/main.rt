@@ -14,9 +14,9 @@ fn put_home(out: LookupOut) {
     match out {
         LookupOut::Found(home) => {
             io::write_all(1, b" home");
-            text::put_number(home.target as u64);
-            text::put_number(home.number);
-            text::put_number(home.byte);
+            case_text::put_number(home.target as u64);
+            case_text::put_number(home.number);
+            case_text::put_number(home.byte);
         }
         LookupOut::Refused(number) => text::put_refused(number),
     }
@@ -27,7 +27,7 @@ fn put_byte(out: BackOut) {
     match out {
         BackOut::At(byte) => {
             io::write_all(1, b" byte");
-            text::put_number(byte);
+            case_text::put_number(byte);
         }
         BackOut::Refused(number) => text::put_refused(number),
     }
@@ -46,24 +46,24 @@ fn run(word: u8, l: Layout, v: [u64; 40]) {
 
 // Runs the case from `from` to `to`: the call, the name of the layout and the numbers.
 fn case(s: &[u8], definitions: [usize; 32], from: usize, to: usize) {
-    let name = std::num::wrapping_add_usize(text::find(s, from, to, b' '), 1);
+    let name = std::num::wrapping_add_usize(case_text::find(s, from, to, b' '), 1);
     let place = layouts::definition(s, definitions, name);
     if s.len() <= place {
         io::write_all(1, b" no such layout");
         return;
     }
-    let space = text::find(s, name, to, b' ');
+    let space = case_text::find(s, name, to, b' ');
     let v = text::numbers(s, std::num::wrapping_add_usize(space, 1), to);
-    run(text::byte_at(s, from), layouts::defined(s, place), v);
+    run(case_text::byte_at(s, from), layouts::defined(s, place), v);
 }
 
 // Runs the line from `from` to `to`. Gives the number of cases so far.
 fn line(n: u64, s: &[u8], definitions: [usize; 32], from: usize, to: usize) -> u64 {
-    if text::byte_at(s, from) < b'A' {
+    if case_text::byte_at(s, from) < b'A' {
         return n;
     }
-    let colon = text::find(s, from, to, b':');
-    text::put(s, from, colon);
+    let colon = case_text::find(s, from, to, b':');
+    case_text::put(s, from, colon);
     io::write_all(1, b":");
     case(s, definitions, std::num::wrapping_add_usize(colon, 2), to);
     io::write_all(1, b"\n");
@@ -77,7 +77,7 @@ fn lines(s: &[u8]) -> u64 {
     let mut n: u64 = 0;
     let mut at: usize = 0;
     while at < to {
-        let end = text::find(s, at, to, b'\n');
+        let end = case_text::find(s, at, to, b'\n');
         n = line(n, s, definitions, at, end);
         if to <= end {
             return n;

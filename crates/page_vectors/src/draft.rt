@@ -88,8 +88,8 @@ pub(crate) fn with_hex(
     let mut at = place;
     let mut i = from;
     while i < to {
-        let lower = text::byte_at(s, std::num::wrapping_add_usize(i, 1));
-        r = with(r, at, 16 * digit(text::byte_at(s, i)) + digit(lower));
+        let lower = case_text::byte_at(s, std::num::wrapping_add_usize(i, 1));
+        r = with(r, at, 16 * digit(case_text::byte_at(s, i)) + digit(lower));
         if to - i <= stride {
             return r;
         }
@@ -102,13 +102,13 @@ pub(crate) fn with_hex(
 // The bytes with one edit: `4=0100` changes those from place 4 on, `#71` makes them 71, with zero bytes where these are
 // more.
 fn with_edit(d: Draft, s: &[u8], from: usize, to: usize) -> Draft {
-    if text::byte_at(s, from) == b'#' {
+    if case_text::byte_at(s, from) == b'#' {
         let v = text::numbers(s, std::num::wrapping_add_usize(from, 1), to);
         let mut r = d;
         r.length = v[0];
         return r;
     }
-    let equals = text::find(s, from, to, b'=');
+    let equals = case_text::find(s, from, to, b'=');
     let v = text::numbers(s, from, equals);
     with_hex(d, v[0], s, std::num::wrapping_add_usize(equals, 1), to, 2)
 }
@@ -117,10 +117,10 @@ fn with_edit(d: Draft, s: &[u8], from: usize, to: usize) -> Draft {
 // is passed over.
 pub(crate) fn edited(d: Draft, s: &[u8], from: usize, to: usize) -> Draft {
     let mut r = d;
-    let mut at = text::find(s, from, to, b'/');
+    let mut at = case_text::find(s, from, to, b'/');
     while at < to {
         let next = at + 1;
-        let end = text::find(s, next, to, b'/');
+        let end = case_text::find(s, next, to, b'/');
         r = with_edit(r, s, next, end);
         at = end;
     }

@@ -26,16 +26,16 @@ fn run(word: u8, s: &[u8], from: usize, to: usize) {
 
 // Runs the line from `from` to `to`. Gives the number of cases so far.
 fn line(n: u64, s: &[u8], from: usize, to: usize) -> u64 {
-    let colon = text::find(s, from, to, b':');
-    if (to <= colon) | (text::byte_at(s, from) == b'#') {
+    let colon = case_text::find(s, from, to, b':');
+    if (to <= colon) | (case_text::byte_at(s, from) == b'#') {
         return n;
     }
-    text::put(s, from, colon);
+    case_text::put(s, from, colon);
     io::write_all(1, b":");
     let word = std::num::wrapping_add_usize(colon, 2);
-    let space = text::find(s, word, to, b' ');
+    let space = case_text::find(s, word, to, b' ');
     run(
-        text::byte_at(s, word),
+        case_text::byte_at(s, word),
         s,
         std::num::wrapping_add_usize(space, 1),
         to,
@@ -50,7 +50,7 @@ fn lines(s: &[u8]) -> u64 {
     let mut n: u64 = 0;
     let mut at: usize = 0;
     while at < to {
-        let end = text::find(s, at, to, b'\n');
+        let end = case_text::find(s, at, to, b'\n');
         n = line(n, s, at, end);
         if to <= end {
             return n;

@@ -26,16 +26,16 @@ fn with_numbers(d: Draft, numbers: [usize; 16], widths: [usize; 16]) -> Draft {
 
 // The bytes and a record: the two characters of its mark and its fields.
 fn with_fields(d: Draft, s: &[u8], from: usize, to: usize) -> Draft {
-    let mark = text::byte_at(s, from);
+    let mark = case_text::byte_at(s, from);
     let next = std::num::wrapping_add_usize(from, 1);
-    let marked = draft::push(draft::push(d, mark), text::byte_at(s, next));
+    let marked = draft::push(draft::push(d, mark), case_text::byte_at(s, next));
     let v = text::numbers(s, std::num::wrapping_add_usize(next, 1), to);
     with_numbers(marked, v, widths_of(mark))
 }
 
 // The bytes and those that a row says: behind an x hexadecimal bytes, with a space between; else a record.
 fn with_row(d: Draft, s: &[u8], from: usize, to: usize) -> Draft {
-    if text::byte_at(s, from) != b'x' {
+    if case_text::byte_at(s, from) != b'x' {
         return with_fields(d, s, from, to);
     }
     let length = d.length;
@@ -46,7 +46,7 @@ fn with_row(d: Draft, s: &[u8], from: usize, to: usize) -> Draft {
 
 // The place itself, or the next one where a line ends there.
 fn on_line(s: &[u8], at: usize) -> usize {
-    if text::byte_at(s, at) == b'\n' {
+    if case_text::byte_at(s, at) == b'\n' {
         return std::num::wrapping_add_usize(at, 1);
     }
     at
@@ -57,7 +57,7 @@ fn defined(s: &[u8], from: usize, to: usize) -> Draft {
     let mut d = draft::empty();
     let mut at = from;
     while at < to {
-        let end = text::find(s, at, to, b';');
+        let end = case_text::find(s, at, to, b';');
         if to <= end {
             return d;
         }
@@ -70,22 +70,22 @@ fn defined(s: &[u8], from: usize, to: usize) -> Draft {
 // The page of a name, of no bytes where none is defined.
 fn named(s: &[u8], name: u8) -> Draft {
     let to = s.len();
-    let mut at = text::find(s, 0, to, b'$');
+    let mut at = case_text::find(s, 0, to, b'$');
     while at < to {
         let next = at + 1;
-        let end = text::find(s, next, to, b'$');
-        if text::byte_at(s, next) == name {
+        let end = case_text::find(s, next, to, b'$');
+        if case_text::byte_at(s, next) == name {
             return defined(s, std::num::wrapping_add_usize(next, 1), end);
         }
         if to <= end {
             return draft::empty();
         }
-        at = text::find(s, end + 1, to, b'$');
+        at = case_text::find(s, end + 1, to, b'$');
     }
     draft::empty()
 }
 
 // The page that the text from `from` to `to` says: a name and edits.
 pub(crate) fn page(s: &[u8], from: usize, to: usize) -> Draft {
-    draft::edited(named(s, text::byte_at(s, from)), s, from, to)
+    draft::edited(named(s, case_text::byte_at(s, from)), s, from, to)
 }

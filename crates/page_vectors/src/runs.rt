@@ -14,9 +14,9 @@ fn put_reading(r: Reading) {
         return;
     }
     io::write_all(1, b" refused");
-    text::put_number(r.refusal as u64);
+    case_text::put_number(r.refusal as u64);
     io::write_all(1, b" page");
-    text::put_number(r.page as u64);
+    case_text::put_number(r.page as u64);
 }
 
 // Reads the first bytes of the array, as the listing does or as the host's pages are read.
@@ -31,7 +31,7 @@ fn read(bytes: [u8; 1024], length: usize, listed: bool) {
 
 // The run with a page more, for the listing after its length; or edited.
 fn with(run: Draft, s: &[u8], from: usize, to: usize, listed: bool) -> Draft {
-    if text::byte_at(s, from) == b'@' {
+    if case_text::byte_at(s, from) == b'@' {
         return draft::edited(run, s, from, to);
     }
     let page = pages::page(s, from, to);
@@ -46,7 +46,7 @@ fn run(s: &[u8], from: usize, to: usize, listed: bool) -> Draft {
     let mut r = draft::empty();
     let mut at = from;
     while at < to {
-        let end = text::find(s, at, to, b' ');
+        let end = case_text::find(s, at, to, b' ');
         r = with(r, s, at, end, listed);
         if to <= end {
             return r;

@@ -17,7 +17,7 @@ fn put_answer(answer: Answer) {
         Answer::Complete => {
             io::write_all(1, b" complete");
         }
-        Answer::Refused(number) => text::put_number(number as u64),
+        Answer::Refused(number) => case_text::put_number(number as u64),
     }
 }
 
@@ -53,9 +53,9 @@ fn by_hand(c: Collector, v: [usize; 16]) -> Collector {
 // Prints the generation and the number of components, as document 01's listing does.
 pub(crate) fn put_layout(generation: u32, count: usize) {
     io::write_all(1, b" layout");
-    text::put_number(generation as u64);
+    case_text::put_number(generation as u64);
     io::write_all(1, b" components");
-    text::put_number(count as u64);
+    case_text::put_number(count as u64);
 }
 
 // Prints what the layout out of the collector is.
@@ -67,13 +67,13 @@ fn show(c: Collector) {
         return;
     }
     io::write_all(1, b" no layout");
-    text::put_number(out.refusal as u64);
+    case_text::put_number(out.refusal as u64);
 }
 
 // Writes a page of the layout out of the collector: the page number, the bytes of the buffer, the components and the id
 // of the first, changed by hand, and behind `=` the page that is expected.
 fn write(c: Collector, s: &[u8], from: usize, to: usize) {
-    let equals = text::find(s, from, to, b'=');
+    let equals = case_text::find(s, from, to, b'=');
     let v = text::numbers(s, from, equals);
     let page = pages::page(s, std::num::wrapping_add_usize(equals, 1), to);
     let out = collector::layout_of(c);
@@ -85,14 +85,14 @@ fn write(c: Collector, s: &[u8], from: usize, to: usize) {
 // or a page is offered. Gives the collector afterwards.
 fn step(c: Collector, s: &[u8], from: usize, to: usize) -> Collector {
     let next = std::num::wrapping_add_usize(from, 1);
-    match text::byte_at(s, from) {
+    match case_text::byte_at(s, from) {
         b'=' => by_hand(c, text::numbers(s, next, to)),
         b'?' => {
             show(c);
             c
         }
         b'~' => {
-            writing::compare(c, made::named(text::byte_at(s, next)));
+            writing::compare(c, made::named(case_text::byte_at(s, next)));
             c
         }
         b'>' => {
@@ -108,7 +108,7 @@ pub(crate) fn steps(s: &[u8], from: usize, to: usize) {
     let mut c = collector::new_collector();
     let mut at = from;
     while at < to {
-        let end = text::find(s, at, to, b' ');
+        let end = case_text::find(s, at, to, b' ');
         c = step(c, s, at, end);
         if to <= end {
             return;

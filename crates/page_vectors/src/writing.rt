@@ -15,7 +15,7 @@ const FILLER: u8 = 0xA5;
 // Prints that a page was refused.
 fn put_refused(number: u8) {
     io::write_all(1, b" refused");
-    text::put_number(number as u64);
+    case_text::put_number(number as u64);
 }
 
 // Prints the answer. Gives the number of bytes written, 0 where it was refused.
@@ -23,7 +23,7 @@ fn put_out(out: PageOut) -> usize {
     match out {
         PageOut::Written(bytes) => {
             io::write_all(1, b" written");
-            text::put_number(bytes as u64);
+            case_text::put_number(bytes as u64);
             bytes
         }
         PageOut::Refused(number) => {
@@ -72,7 +72,7 @@ pub(crate) fn write(l: Layout, number: usize, room: usize, page: Draft) {
 
 // Prints the size of a page and offers it to the collector.
 fn offered(c: Collector, buffer: [u8; 1024], bytes: usize) -> Collector {
-    text::put_number(bytes as u64);
+    case_text::put_number(bytes as u64);
     taking::offer_first(c, buffer, bytes)
 }
 
@@ -113,7 +113,7 @@ fn pass(l: Layout, asked: usize) {
 
 // A case of many pages: how many are asked for, and the stripe counts of the layout.
 pub(crate) fn paged(s: &[u8], from: usize, to: usize) {
-    let end = text::find(s, from, to, b' ');
+    let end = case_text::find(s, from, to, b' ');
     let v = text::numbers(s, from, end);
     let counts = text::numbers(s, std::num::wrapping_add_usize(end, 1), to);
     pass(made::of_counts(counts), v[0]);

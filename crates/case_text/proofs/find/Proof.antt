@@ -1,8 +1,8 @@
--- `page_vectors::text::find` is safe and ends: each turn of its loop brings it nearer to its bound.
+-- `case_text::find` is safe and ends: each turn of its loop brings it nearer to its bound.
 use Prim.Native.Nat.{_≤_, _-_}
 use borrow.Author.Needs.{needs}
-use Rattle.page_vectors.proofs.text.find.Statement.{statement}
-use Rattle.page_vectors.proofs.text.find.Tie as tie
+use Rattle.case_text.proofs.find.Statement.{statement}
+use Rattle.case_text.proofs.find.Tie as tie
 
 abbrev Inv-loop : tie.InvT-loop
 Inv-loop s from to byte i₀ i = from ≤ i

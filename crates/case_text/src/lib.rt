@@ -1,16 +1,23 @@
-// What the programs that run cases from a text share: places in the text, numbers, and what is printed of a case. Each
-// function is proved safe; what the programs print is compared with a stored text.
-ghost use Prim.Native.Nat.{_≤_};
+// Places and numbers in a text of cases, for the programs that run them.
+ghost use mathlib.Core.Path.{_≡_};
+ghost use Prim.Native.Nat.{_-_, _≤_};
+ghost use lib.ListN.{getD};
+ghost use Rattle.case_text.specs.Places.{placeFrom, withDigit};
 
 // The byte at the place, 0 behind the end.
-pub fn byte_at(s: &[u8], i: usize) -> u8 {
-    if i < s.len() { s[i] } else { 0 }
+pub fn byte_at(s: &[u8], i: usize) -> u8
+    ensures { λ r. ⌜ r ≡ getD (now (s .entry)) i 0 ⌝ }
+{
+    if i < s.len() {
+        return s[i];
+    }
+    0
 }
 
 // The first place from `from` on and before `to` that holds the byte. Where there is none, `to`, or `from` if that is
 // behind it.
 pub fn find(s: &[u8], from: usize, to: usize, byte: u8) -> usize
-    ensures { λ r. ⌜ from ≤ r ⌝ }
+    ensures { λ r. ⌜ (r ≡ placeFrom (to - from) (now (s .entry)) from byte) × (from ≤ r) ⌝ }
 {
     let mut i = from;
     while i < to {
@@ -22,8 +29,11 @@ pub fn find(s: &[u8], from: usize, to: usize, byte: u8) -> usize
     i
 }
 
-// A number with one more decimal digit, 2^64 - 1 where that is more.
-pub fn with_digit(number: u64, digit: u8) -> u64 {
+// A number with one more decimal digit, 2^64 - 1 where that is more. The value of the digit is that of its lower four
+// bits.
+pub fn with_digit(number: u64, digit: u8) -> u64
+    ensures { λ r. ⌜ r ≡ withDigit number digit ⌝ }
+{
     let value = (digit % 16) as u64;
     if number < 1844674407370955161 {
         return number * 10 + value;
@@ -31,25 +41,8 @@ pub fn with_digit(number: u64, digit: u8) -> u64 {
     if 1844674407370955161 < number {
         return 18446744073709551615;
     }
-    if value < 5 {
+    if value < 6 {
         return 18446744073709551610 + value;
     }
     18446744073709551615
-}
-
-// Prints the text from `from` to `to`.
-pub fn put(s: &[u8], from: usize, to: usize) {
-    if s.len() < to {
-        return;
-    }
-    if to < from {
-        return;
-    }
-    io::write_all(1, &s[from..to]);
-}
-
-// Prints a space and a number.
-pub fn put_number(number: u64) {
-    io::write_all(1, b" ");
-    io::print_decimal(1, number);
 }

@@ -14,9 +14,9 @@ fn put_home(out: LookupOut) {
     match out {
         LookupOut::Found(home) => {
             io::write_all(1, b" home");
-            case_text::put_number(home.target as u64);
-            case_text::put_number(home.number);
-            case_text::put_number(home.byte);
+            text::put_number(home.target as u64);
+            text::put_number(home.number);
+            text::put_number(home.byte);
         }
         LookupOut::Refused(number) => text::put_refused(number),
     }
@@ -27,7 +27,7 @@ fn put_byte(out: BackOut) {
     match out {
         BackOut::At(byte) => {
             io::write_all(1, b" byte");
-            case_text::put_number(byte);
+            text::put_number(byte);
         }
         BackOut::Refused(number) => text::put_refused(number),
     }
@@ -63,7 +63,7 @@ fn line(n: u64, s: &[u8], definitions: [usize; 32], from: usize, to: usize) -> u
         return n;
     }
     let colon = case_text::find(s, from, to, b':');
-    case_text::put(s, from, colon);
+    text::put(s, from, colon);
     io::write_all(1, b":");
     case(s, definitions, std::num::wrapping_add_usize(colon, 2), to);
     io::write_all(1, b"\n");

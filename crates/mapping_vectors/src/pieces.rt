@@ -26,7 +26,7 @@ fn put_piece(room: [u64; 1320], at: usize) {
     let mut i: usize = 1;
     while i < 5 {
         io::write_all(1, b",");
-        case_text::put_number(number_at(room, std::num::wrapping_add_usize(at, i)));
+        text::put_number(number_at(room, std::num::wrapping_add_usize(at, i)));
         i += 1;
     }
     io::write_all(1, b")");
@@ -65,7 +65,7 @@ fn put_ends(room: [u64; 1320], end: usize) {
     io::write_all(1, b" to");
     put_piece(room, std::num::wrapping_sub_usize(end, 5));
     io::write_all(1, b", check sum");
-    case_text::put_number(check_sum(room, end));
+    text::put_number(check_sum(room, end));
 }
 
 // Do the numbers from `from` to `to` hold what they held before the call?
@@ -102,7 +102,7 @@ fn put_rest(room: [u64; 1320], from: usize, lent: usize) {
 fn put_answer(out: CutOut) -> usize {
     match out {
         CutOut::Pieces(count) => {
-            case_text::put_number(count);
+            text::put_number(count);
             io::write_all(1, b" pieces");
             5 * at_most_1300(count)
         }

@@ -1,4 +1,4 @@
-// The words and numbers that the text of the cases has.
+// The words and numbers that the text of the cases has, and what is printed of it.
 
 // The first place from `from` on and before `to` that holds a space or a colon; `to` where there is none.
 fn word_end(s: &[u8], from: usize, to: usize) -> usize {
@@ -31,10 +31,27 @@ pub(crate) fn is_word(s: &[u8], place: usize, other: usize) -> bool {
     false
 }
 
+// Prints the text from `from` to `to`.
+pub(crate) fn put(s: &[u8], from: usize, to: usize) {
+    if s.len() < to {
+        return;
+    }
+    if to < from {
+        return;
+    }
+    io::write_all(1, &s[from..to]);
+}
+
+// Prints a space and a number.
+pub(crate) fn put_number(number: u64) {
+    io::write_all(1, b" ");
+    io::print_decimal(1, number);
+}
+
 // Prints that a call was refused, and by which number.
 pub(crate) fn put_refused(number: u8) {
     io::write_all(1, b" refused");
-    case_text::put_number(number as u64);
+    put_number(number as u64);
 }
 
 // The number with one more character: a digit, or the last letter of `eof`. Other characters say nothing.

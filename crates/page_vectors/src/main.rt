@@ -30,7 +30,7 @@ fn line(n: u64, s: &[u8], from: usize, to: usize) -> u64 {
     if (to <= colon) | (case_text::byte_at(s, from) == b'#') {
         return n;
     }
-    case_text::put(s, from, colon);
+    text::put(s, from, colon);
     io::write_all(1, b":");
     let word = std::num::wrapping_add_usize(colon, 2);
     let space = case_text::find(s, word, to, b' ');

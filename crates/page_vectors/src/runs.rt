@@ -14,9 +14,9 @@ fn put_reading(r: Reading) {
         return;
     }
     io::write_all(1, b" refused");
-    case_text::put_number(r.refusal as u64);
+    text::put_number(r.refusal as u64);
     io::write_all(1, b" page");
-    case_text::put_number(r.page as u64);
+    text::put_number(r.page as u64);
 }
 
 // Reads the first bytes of the array, as the listing does or as the host's pages are read.

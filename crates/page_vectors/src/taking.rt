@@ -17,7 +17,7 @@ fn put_answer(answer: Answer) {
         Answer::Complete => {
             io::write_all(1, b" complete");
         }
-        Answer::Refused(number) => case_text::put_number(number as u64),
+        Answer::Refused(number) => text::put_number(number as u64),
     }
 }
 
@@ -53,9 +53,9 @@ fn by_hand(c: Collector, v: [usize; 16]) -> Collector {
 // Prints the generation and the number of components, as document 01's listing does.
 pub(crate) fn put_layout(generation: u32, count: usize) {
     io::write_all(1, b" layout");
-    case_text::put_number(generation as u64);
+    text::put_number(generation as u64);
     io::write_all(1, b" components");
-    case_text::put_number(count as u64);
+    text::put_number(count as u64);
 }
 
 // Prints what the layout out of the collector is.
@@ -67,7 +67,7 @@ fn show(c: Collector) {
         return;
     }
     io::write_all(1, b" no layout");
-    case_text::put_number(out.refusal as u64);
+    text::put_number(out.refusal as u64);
 }
 
 // Writes a page of the layout out of the collector: the page number, the bytes of the buffer, the components and the id

@@ -1,4 +1,21 @@
-// The numbers that the text of the cases has.
+// The numbers that the text of the cases has, and what is printed of it.
+
+// Prints the text from `from` to `to`.
+pub(crate) fn put(s: &[u8], from: usize, to: usize) {
+    if s.len() < to {
+        return;
+    }
+    if to < from {
+        return;
+    }
+    io::write_all(1, &s[from..to]);
+}
+
+// Prints a space and a number.
+pub(crate) fn put_number(number: u64) {
+    io::write_all(1, b" ");
+    io::print_decimal(1, number);
+}
 
 // Up to 16 numbers, and the place of the one that is being read.
 struct Reader {

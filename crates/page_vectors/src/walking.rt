@@ -5,10 +5,10 @@ use page::Head;
 
 // Prints what a head says.
 fn put_head(h: Head) {
-    case_text::put_number(h.more as u64);
-    case_text::put_number(h.number as u64);
-    case_text::put_number(h.count as u64);
-    case_text::put_number(h.generation as u64);
+    text::put_number(h.more as u64);
+    text::put_number(h.number as u64);
+    text::put_number(h.count as u64);
+    text::put_number(h.generation as u64);
 }
 
 // Walks over the page that the bytes begin with.
@@ -20,7 +20,7 @@ fn walk(bytes: [u8; 1024]) {
     }
     put_head(page::decode::head_of(&bytes));
     io::write_all(1, b" ends");
-    case_text::put_number(found.end as u64);
+    text::put_number(found.end as u64);
 }
 
 // A case of one page.

@@ -15,7 +15,7 @@ const FILLER: u8 = 0xA5;
 // Prints that a page was refused.
 fn put_refused(number: u8) {
     io::write_all(1, b" refused");
-    case_text::put_number(number as u64);
+    text::put_number(number as u64);
 }
 
 // Prints the answer. Gives the number of bytes written, 0 where it was refused.
@@ -23,7 +23,7 @@ fn put_out(out: PageOut) -> usize {
     match out {
         PageOut::Written(bytes) => {
             io::write_all(1, b" written");
-            case_text::put_number(bytes as u64);
+            text::put_number(bytes as u64);
             bytes
         }
         PageOut::Refused(number) => {
@@ -72,7 +72,7 @@ pub(crate) fn write(l: Layout, number: usize, room: usize, page: Draft) {
 
 // Prints the size of a page and offers it to the collector.
 fn offered(c: Collector, buffer: [u8; 1024], bytes: usize) -> Collector {
-    case_text::put_number(bytes as u64);
+    text::put_number(bytes as u64);
     taking::offer_first(c, buffer, bytes)
 }
 

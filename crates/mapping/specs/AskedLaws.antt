@@ -15,7 +15,6 @@ use Rattle.layout.specs.Holder.{holds}
 use Rattle.mapping.specs.Lookup.{notInitAt}
 use Rattle.mapping.specs.Spans.{spanOf, spansOf}
 use Rattle.mapping.specs.Cutting.{partBegin, partEnd, touches, notInitAsked}
-use Rattle.mapping.specs.UnitLaws.{lower-by, higher-by}
 
 -- 10: some byte of the request lies at or past `end`.
 pub past-asked : (end a m : ℕ)
@@ -39,9 +38,7 @@ module _ (a b : ℕ) where
   touched-byte : (c : Component) → touches a b (spanOf c) ≡ true → (q : ℕ) × (a ≤ q) × (q < b) × (holds c q ≡ true)
   touched-byte c e =
       let q = partBegin a (spanOf c) in
-      let l = ltb-true q (partEnd b (spanOf c)) e in
-      let h = higher-by a (c .begin) in
-      let w = lower-by b (c .end) in (
+      let l = ltb-true q (partEnd b (spanOf c)) e in (
         q,
         omega arith,
         omega arith,
@@ -54,8 +51,6 @@ module _ (a b : ℕ) where
       let t = both-true (leb (c .begin) q) (ltb q (c .end)) e in
       let x = leb-true (c .begin) q (t .0) in
       let y = ltb-true q (c .end) (t .1) in
-      let u = higher-by a (c .begin) in
-      let v = lower-by b (c .end) in
       lt-ltb (partBegin a (spanOf c)) (partEnd b (spanOf c)) (omega arith)
 
   not-init-byte : (cs : List Component) → anyOf (notInitAsked a b) (spansOf cs) ≡ true

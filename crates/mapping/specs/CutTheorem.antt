@@ -27,7 +27,7 @@ use Rattle.mapping.specs.Cutting.{partBegin, partEnd, touches, piecesOf,
 use Rattle.mapping.specs.Cutting.{refusalBy, cutRefusal, cutPieces, cutCount, cutOf}
 use Rattle.mapping.specs.CutPlaces.{cutPlace, countAfter, countByPlaces}
 use Rattle.mapping.specs.CutFacts.{Uncut, AtHome, Cut}
-use Rattle.mapping.specs.UnitLaws.{lower-le-left, higher-ge-left, length-units}
+use Rattle.mapping.specs.UnitLaws.{length-units}
 use Rattle.mapping.specs.Acceptance.{accepted-facts}
 use Rattle.mapping.specs.TileLaws.{EndsAt, each-map, count-same, count-pieces}
 use Rattle.mapping.specs.UnitCutLaws.{untouched-none}
@@ -96,7 +96,7 @@ cut-right l a m n k e =
 -- A request of no bytes has none in a component,
 untouched : (a : ℕ) (c : Span) → touches a a c ≡ false
 untouched a c =
-    le-ltb (partBegin a c) (partEnd a c) (omega (arith, lower-le-left a (c .end), higher-ge-left a (c .begin)))
+    le-ltb (partBegin a c) (partEnd a c) (omega arith)
 
 -- so none in a component that is not init,
 none-asked : (a : ℕ) (xs : List Span) → anyOf (notInitAsked a a) xs ≡ false

@@ -1,5 +1,5 @@
 -- A request cut into pieces (1, 9 to 12). What stands in quotes is document 01's.
-use Prim.Native.Nat.{ℕ, zero, suc, _+_, _-_, _*_, _/_, _^_}
+use Prim.Native.Nat.{ℕ, zero, suc, _+_, _-_, _*_, _/_, _^_, min, max}
 use mathlib.Core.List.{List, [], _∷_, _++_}
 use mathlib.Core.Bool.{Bool, not, cond, _&&_, _||_}
 use lib.Dec.{ltb}
@@ -17,14 +17,6 @@ use Rattle.mapping.specs.declared.CutOut.{CutOut}
 use Rattle.mapping.specs.declared.CutOut.the-variants.{Pieces, Refused}
 use Rattle.mapping.specs.Spans.{spansOf}
 use Rattle.mapping.specs.Answers.{Answer, gives, refuses, answer, checked}
-
--- The lower of two numbers.
-unfoldable pub lower : ℕ → ℕ → ℕ
-lower a b = cond (ltb a b) a b
-
--- The higher of two numbers.
-unfoldable pub higher : ℕ → ℕ → ℕ
-higher a b = cond (ltb a b) b a
 
 -- Where the unit of byte a ends: the first multiple of z above a.
 unfoldable pub unitEnd : ℕ → ℕ → ℕ
@@ -45,15 +37,15 @@ pieceFrom id z s a b =
 abbrev pub unitPieces : ℕ → ℕ → ℕ → ℕ → ℕ → ℕ → List Piece
 unitPieces zero id z s a b = []
 unitPieces (suc n) id z s a b =
-    pieceFrom id z s a (lower (unitEnd z a) b) ∷ unitPieces n id z s (lower (unitEnd z a) b) b
+    pieceFrom id z s a (min (unitEnd z a) b) ∷ unitPieces n id z s (min (unitEnd z a) b) b
 
 -- Where the part of a request begins that lies in a component; the request begins at a.
 abbrev pub partBegin : ℕ → Span → ℕ
-partBegin a c = higher a (c .begin)
+partBegin a c = max a (c .begin)
 
 -- Where that part ends; the request ends at b.
 abbrev pub partEnd : ℕ → Span → ℕ
-partEnd b c = lower b (c .end)
+partEnd b c = min b (c .end)
 
 -- A byte of the request from a to b lies in the component.
 abbrev pub touches : ℕ → ℕ → Span → Bool

@@ -15,7 +15,7 @@ use Rattle.mapping.specs.Homes.{Home, inObject, homeIn, homeOf}
 use Rattle.mapping.specs.Lookup.{lookupRefusal, lookupIn}
 use Rattle.mapping.specs.Back.{fileByteIn, hiddenRefusal, backRefusal, byteOf, backIn}
 use Rattle.mapping.specs.Spans.{spansOf}
-use Rattle.mapping.specs.Cutting.{lower, higher, unitEnd, unitCount, piecesOf, tooMany, refusalBy, cutIn}
+use Rattle.mapping.specs.Cutting.{unitEnd, unitCount, piecesOf, tooMany, refusalBy, cutIn}
 use Rattle.mapping.specs.CutPlaces.{cutPlace, countByPlaces}
 
 -- Lookup of a byte of layout A.
@@ -56,7 +56,7 @@ piece offset length id stripe byte =
 
 -- The pieces of the request from a to b of layout A.
 unfoldable pub cutFrom : ℕ → ℕ → List Piece
-unfolding lower higher unitEnd unitCount unitOf stripeOf objectByte packObjects initOf bareOf layoutA
+unfolding unitEnd unitCount unitOf stripeOf objectByte packObjects initOf bareOf layoutA
 cutFrom a b = piecesOf a b (spansOf layoutA)
 
 -- i: "(2097150, 2, 1, 0, 2097150), (2097152, 2, 2, 2, 0)".
@@ -66,7 +66,7 @@ pieces = refl
 
 -- The number of pieces of a request of m bytes of layout A, with 10 numbers lent.
 unfoldable pub counted : ℕ → ℕ → Answer ℕ
-unfolding cutIn refusalBy tooMany lower higher unitCount unitOf packObjects initOf bareOf layoutA
+unfolding cutIn refusalBy tooMany unitCount unitOf packObjects initOf bareOf layoutA
 counted a m = cutIn a m 10 layoutA
 
 pub counts : (counted 2097150 4 ≡ gives 2) × (counted 2097150 0 ≡ gives 0) × (counted eof 1 ≡ refuses 9)

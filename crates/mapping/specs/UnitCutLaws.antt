@@ -1,7 +1,7 @@
 -- The pieces in one component: they tile the part of the request that lies in it, each of them lies in one unit, and
 -- each ends where the component cuts the file or where the request ends.
-use Prim.Native.Nat.{ℕ, zero, suc, _+_, _-_, _%_, _≤_, _<_}
-use mathlib.Core.Path.{_≡_, refl, sym, ap, _∙_}
+use Prim.Native.Nat.{ℕ, zero, suc, _+_, _-_, _%_, _≤_, _<_, min, max}
+use mathlib.Core.Path.{_≡_, refl, ap, _∙_}
 use mathlib.Core.List.{List, [], _∷_}
 use mathlib.Core.Bool.{true, false, cond, or-true, and-true}
 use native.Mathlib.Omega.{arith}
@@ -16,12 +16,11 @@ use Rattle.layout.specs.Facts.{Kind}
 use Rattle.layout.specs.FactLaws.{kind-init, kind-ordered}
 use Rattle.mapping.specs.declared.Span.{Span}
 use Rattle.mapping.specs.declared.Piece.{Piece}
-use Rattle.mapping.specs.Cutting.{lower, higher, unitEnd, unitCount, pieceFrom, unitPieces, partBegin, partEnd}
+use Rattle.mapping.specs.Cutting.{unitEnd, unitCount, pieceFrom, unitPieces, partBegin, partEnd}
 use Rattle.mapping.specs.Spans.{spanOf}
 use Rattle.mapping.specs.Cutting.{touches, partCount, partPieces, notInitAsked}
 use Rattle.mapping.specs.CutPlaces.{cutsAt}
 use Rattle.mapping.specs.CutFacts.{Each, Tiles}
-use Rattle.mapping.specs.UnitLaws.{lower-by, higher-by, lower-left, lower-right, higher-right}
 use Rattle.mapping.specs.UnitLaws.{unit-end, unit-count-none}
 use Rattle.mapping.specs.UnitLaws.{units-next, units-last}
 
@@ -115,37 +114,28 @@ untouched-none a b c t =
 
 -- How far the request from a to b is cut by the components that end at or before `at`.
 abbrev pub cutTo : ℕ → ℕ → ℕ → ℕ
-cutTo a b at = lower b (higher a at)
+cutTo a b at = min b (max a at)
 
 module _ (a b : ℕ) where
   -- At the file's start nothing is cut.
   pub cut-to-start : a ≤ b → cutTo a b 0 ≡ a
-  cut-to-start h = omega (arith, higher-by a 0, lower-by b (higher a 0))
+  cut-to-start h = omega arith
 
   -- At the request's end all of it is.
   pub cut-to-end : (at : ℕ) → a ≤ b → (a < b → b ≤ at) → cutTo a b at ≡ b
   cut-to-end at h k =
-      let e = higher-by a at in
-      lower-left b (higher a at)
-      (bool-cases (ltb a b) (λ t. omega (arith, k (ltb-true a b t))) (λ t. omega (arith, ltb-false a b t)))
+      bool-cases (ltb a b) (λ t. omega (arith, k (ltb-true a b t))) (λ t. omega (arith, ltb-false a b t))
 
   -- From x to y, where no byte of the request lies, nothing is cut.
-  cut-to-stays : (x y : ℕ) → x ≤ y → lower b y ≤ higher a x → cutTo a b x ≡ cutTo a b y
-  cut-to-stays x y h k =
-      let u = higher a x in
-      let v = higher a y in
-      bool-cases (ltb u v)
-      (λ t. let l = ltb-true u v t in
-      let m : b ≤ u = omega (arith, higher-by a x, higher-by a y, lower-by b y) in
-      lower-left b u m ∙ sym (lower-left b v (omega arith)))
-      (λ t. ap (λ n. lower b n) (omega (arith, ltb-false u v t, higher-by a x, higher-by a y)))
+  cut-to-stays : (x y : ℕ) → x ≤ y → min b y ≤ max a x → cutTo a b x ≡ cutTo a b y
+  cut-to-stays x y h k = omega arith
 
   module _ (c : Component) where
     -- The part of the request that lies in the component ends where the request ends or at the component's end.
     stops-part : partEnd b (spanOf c) < b → cutsAt (partEnd b (spanOf c)) c ≡ true
-    unfolding lower
-    stops-part =
-        cond-elim (λ q. q < b → cutsAt q c ≡ true) (ltb b (c .end)) (λ e l. absurd (omega arith)) (λ e l. cuts-end c)
+    stops-part h =
+        let e : partEnd b (spanOf c) ≡ c .end = omega arith in
+        ap (λ q. cutsAt q c) e ∙ cuts-end c
 
     -- The pieces in a component that has bytes of the request.
     touched-cut : Kind c → touches a b (spanOf c) ≡ true → c .init ≡ true
@@ -153,12 +143,11 @@ module _ (a b : ℕ) where
     touched-cut k t i =
         let x = partBegin a (spanOf c) in
         let y = partEnd b (spanOf c) in
-        let l = lower-by b (c .end) in
         let n : partCount a b (spanOf c) ≡ unitCount (c .«stripe_size») x y
         = ap (λ u. cond u (unitCount (c .«stripe_size») x y) 0) i in
         rw n
         (units-cut b c i (kind-init k i .striped .size .nonzero) y (omega arith) (omega arith) stops-part
-        y x (omega arith) (omega (arith, higher-by a (c .begin))) (ltb-true x y t))
+        y x (omega arith) (omega arith) (ltb-true x y t))
 
     -- The pieces in a component tile what the component adds to the part of the request that is cut.
     pub part-cut : Kind c → notInitAsked a b (spanOf c) ≡ false
@@ -168,10 +157,8 @@ module _ (a b : ℕ) where
         let y = partEnd b (spanOf c) in
         bool-cases (touches a b (spanOf c))
         (λ t. let l = ltb-true x y t in
-        let m = lower-by b (c .end) in
-        let above : a ≤ c .end = omega (arith, higher-by a (c .begin)) in
-        let v : cutTo a b (c .begin) ≡ x = lower-right b x (omega arith) in
-        let w : cutTo a b (c .end) ≡ y = ap (λ n. lower b n) (higher-right a (c .end) above) in
+        let v : cutTo a b (c .begin) ≡ x = omega arith in
+        let w : cutTo a b (c .end) ≡ y = omega arith in
         rw (v, w) (touched-cut k t (not-false (c .init) (rw (t, and-true) at u))))
         (λ t. let stays = cut-to-stays (c .begin) (c .end) (kind-ordered k) (ltb-false x y t) in
         rw (stays, untouched-none a b (spanOf c) t) (refl, tt))

@@ -1,58 +1,19 @@
--- The laws of the pieces of one component: the lower and the higher of two numbers, units and their count, and the
--- numbers that pieces are written as.
-use Prim.Native.Nat.{ℕ, zero, suc, _+_, _-_, _*_, _/_, _%_, _^_, _≤_, _<_}
+-- The laws of the pieces of one component: units and their count, and the numbers that pieces are written as.
+use Prim.Native.Nat.{ℕ, zero, suc, _+_, _-_, _*_, _/_, _%_, _^_, _≤_, _<_, min}
 use mathlib.Core.Path.{_≡_, refl, ap, _∙_}
 use mathlib.Core.List.{List, [], _∷_, _++_}
 use native.Mathlib.Nat.{add-mul, mod-lt, div-add-mod', div-eq-of-lt, mul-add-div-right, le-div-iff-mul-le}
-use native.Mathlib.Nat.{div-lt-iff-lt-mul}
+use native.Mathlib.Nat.{div-lt-iff-lt-mul, min-eq-left, min-eq-right}
 use native.Mathlib.Omega.{arith}
 use lib.Dec.{ltb}
 use lib.ListN.{length}
-use borrow.Author.Tests.{ltb-true, ltb-false, lt-ltb, le-ltb}
+use borrow.Author.Tests.{lt-ltb, le-ltb}
 use Rattle.lists.specs.Bools.{cond-elim}
 use Rattle.stripe.specs.Stripe.{unitOf}
 use Rattle.stripe.specs.Laws.{unit-next}
 use Rattle.mapping.specs.declared.Piece.{Piece}
-use Rattle.mapping.specs.Cutting.{lower, higher, unitEnd, unitCount, pieceFrom, unitPieces}
+use Rattle.mapping.specs.Cutting.{unitEnd, unitCount, pieceFrom, unitPieces}
 use Rattle.mapping.specs.Cutting.{pieceNumbers, allNumbers}
-
--- The lower and the higher of a and b, by their order.
-module _ (a b : ℕ) where
-  pub lower-left : a ≤ b → lower a b ≡ a
-  unfolding lower
-  lower-left h = cond-elim (λ (n : ℕ). n ≡ a) (ltb a b) (λ e. refl) (λ e. omega (arith, ltb-false a b e))
-
-  pub lower-right : b ≤ a → lower a b ≡ b
-  unfolding lower
-  lower-right h = rw (le-ltb a b h)
-
-  pub higher-right : a ≤ b → higher a b ≡ b
-  unfolding higher
-  higher-right h = cond-elim (λ (n : ℕ). n ≡ b) (ltb a b) (λ e. refl) (λ e. omega (arith, ltb-false a b e))
-
-  -- The lower is at most the first of them, the higher at least that.
-  pub lower-le-left : lower a b ≤ a
-  unfolding lower
-  lower-le-left = cond-elim (λ (n : ℕ). n ≤ a) (ltb a b) (λ e. omega arith) (λ e. ltb-false a b e)
-
-  pub higher-ge-left : a ≤ higher a b
-  unfolding higher
-  higher-ge-left = cond-elim (λ (n : ℕ). a ≤ n) (ltb a b) (λ e. omega (arith, ltb-true a b e)) (λ e. omega arith)
-
-  -- The same in a form that arithmetic reads.
-  pub lower-by : lower a b ≡ a - (a - b)
-  unfolding lower
-  lower-by =
-      cond-elim (λ n. n ≡ a - (a - b)) (ltb a b)
-      (λ e. omega (arith, ltb-true a b e))
-      (λ e. omega (arith, ltb-false a b e))
-
-  pub higher-by : higher a b ≡ a + (b - a)
-  unfolding higher
-  higher-by =
-      cond-elim (λ n. n ≡ a + (b - a)) (ltb a b)
-      (λ e. omega (arith, ltb-true a b e))
-      (λ e. omega (arith, ltb-false a b e))
 
 -- The unit of a ends as many bytes on as it still has.
 pub unit-end : (z a : ℕ) → 0 < z → unitEnd z a ≡ a + (z - a % z)
@@ -106,18 +67,18 @@ unit-count-bound z a b hz hb =
 -- The first n pieces are n.
 pub length-units : (n id z s a b : ℕ) → length (unitPieces n id z s a b) ≡ n
 length-units zero id z s a b = refl
-length-units (suc n) id z s a b = ap suc (length-units n id z s (lower (unitEnd z a) b) b)
+length-units (suc n) id z s a b = ap suc (length-units n id z s (min (unitEnd z a) b) b)
 
 -- Where b lies behind the unit of a, the first piece ends with that unit.
 pub units-next : (id z s a b : ℕ) → 0 < z → unitEnd z a < b →
     unitPieces (unitCount z a b) id z s a b
     ≡ pieceFrom id z s a (unitEnd z a) ∷ unitPieces (unitCount z (unitEnd z a) b) id z s (unitEnd z a) b
-units-next id z s a b hz h = rw (unit-count-next z a b hz h, lower-left (unitEnd z a) b (omega arith)) refl
+units-next id z s a b hz h = rw (unit-count-next z a b hz h, min-eq-left {n = unitEnd z a} {m = b} (omega arith)) refl
 
 -- Where b lies in the unit of a or at its end, there is one piece, and it ends at b.
 pub units-last : (id z s a b : ℕ) → 0 < z → a < b → b ≤ unitEnd z a →
     unitPieces (unitCount z a b) id z s a b ≡ pieceFrom id z s a b ∷ []
-units-last id z s a b hz h k = rw (unit-count-last z a b hz h k, lower-right (unitEnd z a) b k)
+units-last id z s a b hz h k = rw (unit-count-last z a b hz h k, min-eq-right k)
 
 -- A piece is five numbers.
 pub length-numbers : (ps : List Piece) → length (allNumbers ps) ≡ 5 * length ps

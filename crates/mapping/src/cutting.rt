@@ -5,14 +5,14 @@ use crate::units;
 use layout::Layout;
 ghost use mathlib.Core.Path.{_≡_};
 ghost use mathlib.Core.Bool.{true};
-ghost use Prim.Native.Nat.{_+_, _*_, _^_, _≤_};
+ghost use Prim.Native.Nat.{_+_, _*_, _^_, _≤_, min, max};
 ghost use lib.ListN.{length, take};
 ghost use lib.Seq.{sets};
 ghost use Rattle.lists.specs.Tests.{anyOf};
 ghost use Rattle.layout.specs.Records.{view};
 ghost use Rattle.layout.specs.Rules.{valid};
 ghost use Rattle.mapping.specs.Answers.{answer};
-ghost use Rattle.mapping.specs.Cutting.{lower, higher, notInitAsked, partCount, partPieces};
+ghost use Rattle.mapping.specs.Cutting.{notInitAsked, partCount, partPieces};
 ghost use Rattle.mapping.specs.Cutting.{pieceCount, piecesOf, allNumbers, tooMany, roomAfter};
 ghost use Rattle.mapping.specs.Cutting.{refusalBy, cutRefusal, cutPieces, cutIn, cutSays};
 ghost use Rattle.mapping.specs.Spans.{Cuttable, AllCuttable};
@@ -28,7 +28,7 @@ const NO_SPAN: Span = Span {
 
 // The lower of two numbers.
 fn lower_of(a: u64, b: u64) -> u64
-    ensures { λ r. ⌜ r ≡ lower a b ⌝ }
+    ensures { λ r. ⌜ r ≡ min a b ⌝ }
 {
     if a < b {
         return a;
@@ -38,7 +38,7 @@ fn lower_of(a: u64, b: u64) -> u64
 
 // The higher of two numbers.
 fn higher_of(a: u64, b: u64) -> u64
-    ensures { λ r. ⌜ r ≡ higher a b ⌝ }
+    ensures { λ r. ⌜ r ≡ max a b ⌝ }
 {
     if a < b {
         return b;

@@ -1,9 +1,9 @@
 -- The component that holds a file byte, and the bytes that a layout covers.
-use Prim.Native.Nat.{ℕ, suc}
-use mathlib.Core.List.{List, [], _∷_}
-use mathlib.Core.Bool.{Bool, false, cond, _&&_, _||_}
+use Prim.Native.Nat.{ℕ}
+use mathlib.Core.List.{List}
+use mathlib.Core.Bool.{Bool, _&&_}
 use lib.Dec.{ltb, leb}
-use Rattle.lists.specs.Tests.{after}
+use Rattle.lists.specs.Tests.{after, anyOf, firstThat}
 use Rattle.layout.specs.declared.Component.{Component}
 use Rattle.layout.specs.Records.{neighboursOf}
 use Rattle.layout.specs.Neighbours.{endOf}
@@ -14,13 +14,11 @@ holds c b = leb (c .begin) b && ltb b (c .end)
 
 -- The position of the first component that holds byte b, from 0; the number of components where none does.
 abbrev pub holderOf : ℕ → List Component → ℕ
-holderOf b [] = 0
-holderOf b (c ∷ cs) = cond (holds c b) 0 (suc (holderOf b cs))
+holderOf b cs = firstThat (λ (c : Component). holds c b) cs
 
 -- "It covers the file bytes that lie in some component's extent."
 abbrev pub covers : List Component → ℕ → Bool
-covers [] b = false
-covers (c ∷ cs) b = holds c b || covers cs b
+covers cs b = anyOf (λ (c : Component). holds c b) cs
 
 -- Where the last component ends; 0 where there is none.
 abbrev pub lastEnd : List Component → ℕ

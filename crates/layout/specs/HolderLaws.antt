@@ -1,14 +1,14 @@
 -- Which component holds a byte, where the components stand end to end, and which bytes are covered.
 use Prim.Native.Nat.{ℕ, zero, suc, _-_, _^_, _≤_, _<_}
-use mathlib.Core.Path.{_≡_, refl, sym, ap, _∙_}
+use mathlib.Core.Path.{_≡_, refl, sym, ap}
 use mathlib.Core.List.{List, [], _∷_}
-use mathlib.Core.Bool.{Bool, true, false, not, cond}
+use mathlib.Core.Bool.{Bool, true, false, not}
 use native.Mathlib.Omega.{arith}
-use lib.Dec.{ltb, leb, leb·suc-suc}
+use lib.Dec.{ltb, leb}
 use lib.ListN.{length, getD}
 use borrow.Author.Tests.{ltb-true, ltb-false, leb-true, lt-ltb, le-ltb, le-leb}
 use Rattle.lists.specs.Bools.{bool-cases, both-true}
-use Rattle.lists.specs.Tests.{after}
+use Rattle.lists.specs.Tests.{after, firstThat, first-le, first-any, first-passes}
 use Rattle.layout.specs.declared.Component.{Component}
 use Rattle.layout.specs.Records.{noComponent, neighboursOf}
 use Rattle.layout.specs.Neighbours.{endOf}
@@ -18,8 +18,7 @@ use Rattle.layout.specs.FactLaws.{kind-ordered}
 
 -- The position of the first component whose end lies above byte b, from 0; the number of components where none does.
 abbrev pub endsAbove : ℕ → List Component → ℕ
-endsAbove b [] = 0
-endsAbove b (c ∷ cs) = cond (ltb b (c .end)) 0 (suc (endsAbove b cs))
+endsAbove b cs = firstThat (λ (c : Component). ltb b (c .end)) cs
 
 -- A component that ends at or before a byte does not hold it.
 holds-past : (c : Component) (b : ℕ) → c .end ≤ b → holds c b ≡ false
@@ -35,21 +34,16 @@ eof-in-none c h = holds-past c (2 ^ 64 - 1) h
 
 -- The position of a byte's component is at most the number of components.
 pub holder-le : (b : ℕ) (cs : List Component) → holderOf b cs ≤ length cs
-holder-le b [] = omega arith
-holder-le b (c ∷ cs) = bool-cases (holds c b) (λ e. rw e (omega arith)) (λ e. rw e (omega (arith, holder-le b cs)))
+holder-le b cs = first-le (λ (c : Component). holds c b) cs
 
 -- The component at the position of a byte's component holds the byte.
 pub holder-holds : (b : ℕ) (cs : List Component) → holderOf b cs < length cs
     → holds (getD cs (holderOf b cs) noComponent) b ≡ true
-holder-holds b [] h = absurd (omega arith)
-holder-holds b (c ∷ cs) h = bool-cases (holds c b) (λ e. rw e e) (λ e. rw e (holder-holds b cs (omega (arith, rw e at h))))
+holder-holds b cs h = first-passes (λ (c : Component). holds c b) cs noComponent h
 
 -- A byte is covered exactly if the position of its component is below the number of components.
 pub covers-holder : (b : ℕ) (cs : List Component) → covers cs b ≡ ltb (holderOf b cs) (length cs)
-covers-holder b [] = refl
-covers-holder b (c ∷ cs) =
-    bool-cases (holds c b) (λ e. rw e (sym (lt-ltb 0 (suc (length cs)) (omega arith))))
-    (λ e. rw e (covers-holder b cs ∙ sym (leb·suc-suc (suc (holderOf b cs)) (length cs))))
+covers-holder b cs = first-any (λ (c : Component). holds c b) cs
 
 module _ (more : Bool) where
   -- The list begins at `at`, at or below the byte.

@@ -8,7 +8,7 @@ use lib.ListN.{length, getD}
 use lib.Seq.{append-snoc}
 use borrow.Author.Tests.{not-true}
 use Rattle.lists.specs.Bools.{bool-cases, both-true, both-false}
-use Rattle.lists.specs.Tests.{every, along, after}
+use Rattle.lists.specs.Tests.{every, along, after, anyOf}
 
 -- 1 for a test that passes, 0 for one that fails.
 abbrev pub bit : Bool → ℕ
@@ -27,8 +27,7 @@ after-seen seen (a ∷ l) = after-seen (seen ++ (a ∷ [])) l ∙ append-snoc se
 module _ {A : Type 0} (same : A → A → Bool) where
   -- Does x stand in the list?
   abbrev pub elem : A → List A → Bool
-  elem x [] = false
-  elem x (a ∷ l) = same x a || elem x l
+  elem x l = anyOf (same x) l
 
   -- Does x stand in none of those seen?
   abbrev pub unseen : List A → A → Bool

@@ -6,9 +6,9 @@ use mathlib.Core.List.{List, [], _∷_, _++_}
 use mathlib.Core.Bool.{Bool, true, false, cond, _&&_, _||_, false≢true}
 use native.Mathlib.Omega.{arith}
 use native.Mathlib.Nat.{suc-add}
-use lib.Dec.{eqb}
+use lib.Dec.{eqb, ltb, leb·suc-suc}
 use lib.ListN.{length, getD, take, drop}
-use borrow.Author.Tests.{eq-eqb, ne-eqb}
+use borrow.Author.Tests.{eq-eqb, ne-eqb, lt-ltb}
 use Rattle.lists.specs.Bools.{bool-cases, both-true, true-both, clash}
 
 -- Do all tests pass?
@@ -49,6 +49,11 @@ each {A} ok l = ahead (λ (a : A) (rest : List A). ok a) l
 abbrev pub anyOf : {A : Type 0} → (A → Bool) → List A → Bool
 anyOf ok [] = false
 anyOf ok (a ∷ l) = ok a || anyOf ok l
+
+-- The position of the first element that passes the test, from 0; the number of elements where none does.
+abbrev pub firstThat : {A : Type 0} → (A → Bool) → List A → ℕ
+firstThat ok [] = 0
+firstThat ok (a ∷ l) = cond (ok a) 0 (suc (firstThat ok l))
 
 -- Every test passes exactly if the first that fails stands at the number of tests.
 pub none-failed : (ts : List Bool) → length ts ≤ firstFailed ts → every ts ≡ true
@@ -133,6 +138,26 @@ module _ {A : Type 0} (ok : A → Bool) (d : A) where
   any-place (a ∷ l) e =
       bool-cases (ok a) (λ q. (0, omega arith, q))
       (λ q. let p = any-place l (rw q at e) in (suc (p .0), omega (arith, p .1), p .2))
+
+-- The position of the first element that passes a test.
+module _ {A : Type 0} (ok : A → Bool) where
+  -- It is at most the number of elements,
+  pub first-le : (l : List A) → firstThat ok l ≤ length l
+  first-le [] = omega arith
+  first-le (a ∷ l) = bool-cases (ok a) (λ e. rw e (omega arith)) (λ e. rw e (omega (arith, first-le l)))
+
+  -- below it exactly if an element passes,
+  pub first-any : (l : List A) → anyOf ok l ≡ ltb (firstThat ok l) (length l)
+  first-any [] = refl
+  first-any (a ∷ l) =
+      bool-cases (ok a) (λ e. rw e (sym (lt-ltb 0 (suc (length l)) (omega arith))))
+      (λ e. rw e (first-any l ∙ sym (leb·suc-suc (suc (firstThat ok l)) (length l))))
+
+  -- and then the element there does.
+  pub first-passes : (l : List A) (d : A) → firstThat ok l < length l → ok (getD l (firstThat ok l) d) ≡ true
+  first-passes [] d h = absurd (omega arith)
+  first-passes (a ∷ l) d h =
+      bool-cases (ok a) (λ e. rw e e) (λ e. rw e (first-passes l d (omega (arith, rw e at h))))
 
 -- A conjunction `t && u && v ..`, by its first test and the list of the others.
 abbrev pub conjunction : Bool → List Bool → Bool

@@ -1,9 +1,10 @@
 -- Back, from a home to its file byte (1, 13, 14). What stands in quotes is document 01's.
-use Prim.Native.Nat.{ℕ, suc, _^_}
-use mathlib.Core.List.{List, [], _∷_}
+use Prim.Native.Nat.{ℕ, _^_}
+use mathlib.Core.List.{List}
 use mathlib.Core.Bool.{cond, _&&_}
 use lib.Dec.{leb, ltb}
 use lib.ListN.{getD}
+use Rattle.lists.specs.Tests.{firstThat}
 use Rattle.lists.specs.Counting.{elem}
 use Rattle.stripe.specs.Stripe.{fileByte}
 use Rattle.layout.specs.declared.Object.{Object}
@@ -18,14 +19,12 @@ use Rattle.mapping.specs.Homes.{Home, inObject}
 
 -- The position of the first object record that names the object, from 0; the number of records where none does.
 abbrev pub positionIn : Object → List Object → ℕ
-positionIn o [] = 0
-positionIn o (a ∷ os) = cond (sameObject o a) 0 (suc (positionIn o os))
+positionIn o os = firstThat (sameObject o) os
 
 -- The position of the first component with an object record that names the object, from 0; the number of components
 -- where there is none.
 abbrev pub ownerOf : Object → List Component → ℕ
-ownerOf o [] = 0
-ownerOf o (c ∷ cs) = cond (elem sameObject o (recordsOf c)) 0 (suc (ownerOf o cs))
+ownerOf o cs = firstThat (λ (c : Component). elem sameObject o (recordsOf c)) cs
 
 -- The component of an object of the layout.
 abbrev pub owner : Object → List Component → Component

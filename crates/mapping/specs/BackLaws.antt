@@ -2,13 +2,14 @@
 use Prim.Native.Nat.{ℕ, zero, suc, _^_, _≤_, _<_}
 use mathlib.Core.Path.{_≡_, refl, sym, ap, _∙_}
 use mathlib.Core.List.{List, [], _∷_}
-use mathlib.Core.Bool.{Bool, true, _&&_, false≢true}
+use mathlib.Core.Bool.{Bool, true, _&&_, _||_, false≢true}
 use mathlib.Core.Option.{Option, some}
 use native.Mathlib.Omega.{arith}
-use lib.Dec.{ltb, leb, leb·suc-suc}
+use lib.Dec.{ltb, leb}
 use lib.ListN.{length, getD}
 use borrow.Author.Tests.{ltb-true, lt-ltb}
 use Rattle.lists.specs.Bools.{bool-cases, both-true, true-both}
+use Rattle.lists.specs.Tests.{anyOf, first-any, first-passes}
 use Rattle.lists.specs.Counting.{elem, elem-append, elem-at, elem-true, count, count-append, count-once}
 use Rattle.stripe.specs.Laws as striping
 use Rattle.stripe.specs.Stripe.{stripeOf, objectByte}
@@ -31,36 +32,33 @@ use Rattle.mapping.specs.Back.{hiddenRefusal, backRefusal, byteOf, backI
 
 -- The position of an object among object records is below their number exactly if one of them names it.
 pub position-elem : (o : Object) (os : List Object) → elem sameObject o os ≡ ltb (positionIn o os) (length os)
-position-elem o [] = refl
-position-elem o (a ∷ os) =
-    bool-cases (sameObject o a) (λ e. rw e (sym (lt-ltb 0 (suc (length os)) (omega arith))))
-    (λ e. rw e (position-elem o os ∙ sym (leb·suc-suc (suc (positionIn o os)) (length os))))
+position-elem o os = first-any (sameObject o) os
 
 -- The record at the position then names the object.
 position-names : (o : Object) (os : List Object) → positionIn o os < length os
     → getD os (positionIn o os) noObject ≡ o
-position-names o [] h = absurd (omega arith)
-position-names o (a ∷ os) h =
-    bool-cases (sameObject o a) (λ e. rw e (sym (same-object o a e)))
-    (λ e. rw e (position-names o os (omega (arith, rw e at h))))
+position-names o os h =
+    sym (same-object o (getD os (positionIn o os) noObject) (first-passes (sameObject o) os noObject h))
+
+-- A component has an object record that names the object.
+abbrev has : Object → Component → Bool
+has o c = elem sameObject o (recordsOf c)
+
+-- An object record of the layout names an object exactly if one of some component does.
+elem-records : (o : Object) (cs : List Component) → elem sameObject o (recordsIn cs) ≡ anyOf (has o) cs
+elem-records o [] = refl
+elem-records o (c ∷ cs) =
+    elem-append sameObject o (recordsOf c) (recordsIn cs) ∙ ap (λ (t : Bool). has o c || t) (elem-records o cs)
 
 -- The position of an object's component is below the number of components exactly if an object record of the layout
 -- names the object.
 pub owner-elem : (o : Object) (cs : List Component) → elem sameObject o (recordsIn cs) ≡ ltb (ownerOf o cs) (length cs)
-owner-elem o [] = refl
-owner-elem o (c ∷ cs) =
-    let either = elem-append sameObject o (recordsOf c) (recordsIn cs) in
-    bool-cases (elem sameObject o (recordsOf c))
-    (λ e. rw (either, e) (sym (lt-ltb 0 (suc (length cs)) (omega arith))))
-    (λ e. rw (either, e) (owner-elem o cs ∙ sym (leb·suc-suc (suc (ownerOf o cs)) (length cs))))
+owner-elem o cs = elem-records o cs ∙ first-any (has o) cs
 
 -- The component at the position then has an object record that names it.
 pub owner-has : (o : Object) (cs : List Component) → ownerOf o cs < length cs
     → elem sameObject o (recordsOf (owner o cs)) ≡ true
-owner-has o [] h = absurd (omega arith)
-owner-has o (c ∷ cs) h =
-    bool-cases (elem sameObject o (recordsOf c)) (λ e. rw e e)
-    (λ e. rw e (owner-has o cs (omega (arith, rw e at h))))
+owner-has o cs h = first-passes (has o) cs noComponent h
 
 -- Where the object of the record at a place stands there once, its position is that place.
 position-at : (os : List Object) (i : ℕ) → i < length os → count sameObject (getD os i noObject) os ≤ 1

@@ -1,0 +1,138 @@
+-- Laws of choosing: how it goes record by record, and what is known of the objects chosen in a good table.
+use Prim.Native.Nat.{ℕ, zero, suc, _+_, _≤_, _<_}
+use mathlib.Core.Path.{_≡_, refl, ap}
+use mathlib.Core.List.{List, [], _∷_, map}
+use mathlib.Core.Bool.{Bool, true, cond, _&&_}
+use native.Mathlib.Omega.{arith}
+use lib.Dec.{leb}
+use lib.ListN.{length, getD, take, length-take, length-map}
+use borrow.Author.Tests.{leb-true, le-leb, ne-eqb}
+use Rattle.lists.specs.Bools.{cond-elim, bool-cases, both-true, true-both}
+use Rattle.lists.specs.Tests.{along, take-along, every-take}
+use Rattle.lists.specs.Counting.{count}
+use Rattle.layout.specs.declared.Object.{Object}
+use Rattle.layout.specs.Records.{noObject}
+use Rattle.layout.specs.Distinct.{sameObject}
+use Rattle.layout.specs.FactLaws.{same-object}
+use Rattle.free_table.specs.declared.TargetRecord.{TargetRecord}
+use Rattle.free_table.specs.Table.{targetOk, targetAbove, rising, tableOk}
+use Rattle.free_table.specs.Choosing.{nextObject, passing, chosen, raisedFirst}
+
+-- A table that is not bad has at most 64 records, and their targets rise.
+pub table-facts : (rs : List TargetRecord) → tableOk rs ≡ true → (length rs ≤ 64) × (rising 0 rs ≡ true)
+unfolding tableOk
+table-facts rs e = let p = both-true (leb (length rs) 64) (rising 0 rs) e in (leb-true (length rs) 64 (p .0), p .1)
+
+-- What the first record of a rising table says: its target is in bounds, and those behind it are above it.
+module _ (from : ℕ) (r : TargetRecord) (rs : List TargetRecord) where
+  pub first-rises : rising from (r ∷ rs) ≡ true → (from ≤ r .target) × (r .target ≤ 65534) × (rising (r .target + 1) rs ≡ true)
+  first-rises e =
+      let p = both-true (leb from (r .target) && leb (r .target) 65534) (rising (r .target + 1) rs) e in
+      let q = both-true (leb from (r .target)) (leb (r .target) 65534) (p .0) in
+      (leb-true from (r .target) (q .0), leb-true (r .target) 65534 (q .1), p .1)
+
+  pub rises-first : from ≤ r .target → r .target ≤ 65534 → rising (r .target + 1) rs ≡ true → rising from (r ∷ rs) ≡ true
+  rises-first h k e = true-both (true-both (le-leb from (r .target) h) (le-leb (r .target) 65534 k)) e
+
+-- Records that rise from a target on rise from each lower one on.
+pub rising-lower : (low from : ℕ) (rs : List TargetRecord) → low ≤ from → rising from rs ≡ true → rising low rs ≡ true
+rising-lower low from [] h e = refl
+rising-lower low from (r ∷ rs) h e = let p = first-rises from r rs e in rises-first low r rs (omega arith) (p .1) (p .2)
+
+-- The next objects of rising records have targets of at most 65,534,
+next-targets : (from : ℕ) (rs : List TargetRecord) → rising from rs ≡ true → (i : ℕ) → i < length (map nextObject rs)
+    → getD (map nextObject rs) i noObject .target ≤ 65534
+next-targets from [] e i h = absurd (omega arith)
+next-targets from (r ∷ rs) e zero h = first-rises from r rs e .1
+next-targets from (r ∷ rs) e (suc i) h = next-targets (r .target + 1) rs (first-rises from r rs e .2) i (omega arith)
+
+-- none of them has a target below those of the records,
+next-above : (from : ℕ) (rs : List TargetRecord) → rising from rs ≡ true → (o : Object) → o .target < from
+    → count sameObject o (map nextObject rs) ≡ 0
+unfolding sameObject
+next-above from [] e o h = refl
+next-above from (r ∷ rs) e o h =
+    let p = first-rises from r rs e in
+    rw (ne-eqb (o .target) (r .target) (λ q. omega arith)) (omega (arith, next-above (r .target + 1) rs (p .2) o (omega arith)))
+
+-- and no two of them are the same.
+next-once : (from : ℕ) (rs : List TargetRecord) → rising from rs ≡ true → (o : Object)
+    → count sameObject o (map nextObject rs) ≤ 1
+next-once from [] e o = omega arith
+next-once from (r ∷ rs) e o =
+    let p = first-rises from r rs e in
+    bool-cases (sameObject o (nextObject r))
+    (λ q. let t = ap (λ (v : Object). v .target) (same-object o (nextObject r) q) in
+    rw q (omega (arith, next-above (r .target + 1) rs (p .2) o (omega arith))))
+    (λ q. rw q (omega (arith, next-once (r .target + 1) rs (p .2) o)))
+
+-- The first elements of a list, counted, are the first as many.
+take-count : {A : Type 0} (s : ℕ) (l : List A) → take (length (take s l)) l ≡ take s l
+take-count zero l = refl
+take-count (suc s) [] = refl
+take-count {A} (suc s) (a ∷ l) = ap (λ (m : List A). a ∷ m) (take-count s l)
+
+module _ (ok : TargetRecord → Bool) where
+  -- Where none is to be chosen, or the table is empty, none is.
+  pub chosen-none : (rs : List TargetRecord) → chosen ok 0 rs ≡ []
+  unfolding chosen
+  chosen-none rs = refl
+
+  pub chosen-nil : (s : ℕ) → chosen ok s [] ≡ []
+  unfolding chosen
+  chosen-nil zero = refl
+  chosen-nil (suc s) = refl
+
+  -- A record that passes is chosen first, and one that does not is passed over.
+  pub chosen-cons : (s : ℕ) (r : TargetRecord) (rs : List TargetRecord)
+      → chosen ok (suc s) (r ∷ rs) ≡ cond (ok r) (nextObject r ∷ chosen ok s rs) (chosen ok (suc s) rs)
+  unfolding chosen
+  chosen-cons s r rs = bool-cases (ok r) (λ e. rw e) (λ e. rw e)
+
+  -- No more are chosen than asked for,
+  pub chosen-few : (s : ℕ) (rs : List TargetRecord) → length (chosen ok s rs) ≤ s
+  unfolding chosen
+  chosen-few s rs = rw (length-map (take s (passing ok rs)) nextObject) (omega (arith, length-take s (passing ok rs)))
+
+  -- and to ask for as many as were chosen chooses the same.
+  pub chosen-same : (s : ℕ) (rs : List TargetRecord) → chosen ok (length (chosen ok s rs)) rs ≡ chosen ok s rs
+  unfolding chosen
+  chosen-same s rs =
+      rw (length-map (take s (passing ok rs)) nextObject)
+      (ap (λ (qs : List TargetRecord). map nextObject qs) (take-count s (passing ok rs)))
+
+  -- Where none is to be chosen, nothing is raised.
+  pub raised-none : (rs : List TargetRecord) → raisedFirst ok 0 rs ≡ rs
+  raised-none [] = refl
+  raised-none (r ∷ rs) = refl
+
+  -- The records that pass rise as the table does,
+  passing-rises : (from : ℕ) (rs : List TargetRecord) → rising from rs ≡ true → rising from (passing ok rs) ≡ true
+  passing-rises from [] e = refl
+  passing-rises from (r ∷ rs) e =
+      let p = first-rises from r rs e in
+      let q = passing-rises (r .target + 1) rs (p .2) in
+      cond-elim (λ qs. rising from qs ≡ true) (ok r) (λ u. rises-first from r (passing ok rs) (p .0) (p .1) q)
+      (λ u. rising-lower from (r .target + 1) (passing ok rs) (omega arith) q)
+
+  -- and so do the first s of them.
+  first-rise : (from s : ℕ) (rs : List TargetRecord) → rising from rs ≡ true → rising from (take s (passing ok rs)) ≡ true
+  first-rise from s rs e =
+      rw (← take-along targetOk targetAbove s from (passing ok rs))
+      (every-take s (along targetOk targetAbove from (passing ok rs)) (passing-rises from rs e))
+
+  -- What is chosen from rising records: targets of at most 65,534,
+  module _ (from s : ℕ) (rs : List TargetRecord) (e : rising from rs ≡ true) where
+    pub chosen-targets : (i : ℕ) → i < length (chosen ok s rs) → getD (chosen ok s rs) i noObject .target ≤ 65534
+    unfolding chosen
+    chosen-targets i h = next-targets from (take s (passing ok rs)) (first-rise from s rs e) i h
+
+    -- no object below the lowest target of the table,
+    pub chosen-above : (o : Object) → o .target < from → count sameObject o (chosen ok s rs) ≡ 0
+    unfolding chosen
+    chosen-above o h = next-above from (take s (passing ok rs)) (first-rise from s rs e) o h
+
+    -- and no object twice.
+    pub chosen-once : (o : Object) → count sameObject o (chosen ok s rs) ≤ 1
+    unfolding chosen
+    chosen-once o = next-once from (take s (passing ok rs)) (first-rise from s rs e) o

@@ -2,11 +2,13 @@
 use Prim.Native.Nat.{ℕ, zero, suc, _+_}
 use mathlib.Core.List.{List, [], _∷_, map}
 use mathlib.Core.Bool.{Bool, cond}
-use lib.Dec.{eqb}
 use lib.ListN.{length, take}
+use lib.Seq.{sets}
 use Rattle.layout.specs.declared.Object.{Object}
+use Rattle.layout.specs.Records.{packObjects}
 use Rattle.layout.specs.Rows.{objectOf}
 use Rattle.free_table.specs.declared.TargetRecord.{TargetRecord}
+use Rattle.free_table.specs.declared.Choice.{Choice}
 
 -- The next object on a target.
 abbrev pub nextObject : TargetRecord → Object
@@ -32,3 +34,11 @@ abbrev pub raisedFirst : (TargetRecord → Bool) → ℕ → List TargetRecord �
 raisedFirst ok s [] = []
 raisedFirst ok zero (r ∷ rs) = r ∷ rs
 raisedFirst ok (suc s) (r ∷ rs) = cond (ok r) (raised r ∷ raisedFirst ok s rs) (r ∷ raisedFirst ok (suc s) rs)
+
+-- Chosen objects, in the first places of a choice, the rest blank.
+abbrev pub choiceOf : List Object → Choice
+choiceOf os = record { count = length os; objects = packObjects os }
+
+-- A choice with more objects behind its own.
+abbrev pub withMore : Choice → List Object → Choice
+withMore choice os = record { count = choice .count + length os; objects = sets (choice .objects) (choice .count) os }

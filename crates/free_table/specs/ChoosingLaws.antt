@@ -1,13 +1,14 @@
 -- Laws of choosing: how it goes record by record, and what is known of the objects chosen in a good table.
-use Prim.Native.Nat.{ℕ, zero, suc, _+_, _≤_, _<_}
+use Prim.Native.Nat.{ℕ, zero, suc, _+_, _-_, _≤_, _<_}
 use mathlib.Core.Path.{_≡_, refl, ap}
-use mathlib.Core.List.{List, [], _∷_, map}
-use mathlib.Core.Bool.{Bool, true, cond, _&&_}
+use mathlib.Core.List.{List, [], _∷_, _++_, map}
+use mathlib.Core.Bool.{Bool, true, cond}
 use native.Mathlib.Omega.{arith}
+use native.Mathlib.Nat.{sub-zero, suc-sub-suc}
 use lib.Dec.{leb}
 use lib.ListN.{length, getD, take, length-take, length-map}
-use borrow.Author.Tests.{leb-true, le-leb, ne-eqb}
-use Rattle.lists.specs.Bools.{cond-elim, bool-cases, both-true, true-both}
+use borrow.Author.Tests.{leb-true, ne-eqb}
+use Rattle.lists.specs.Bools.{cond-elim, bool-cases, both-true}
 use Rattle.lists.specs.Tests.{along, take-along, every-take}
 use Rattle.lists.specs.Counting.{count}
 use Rattle.layout.specs.declared.Object.{Object}
@@ -16,28 +17,13 @@ use Rattle.layout.specs.Distinct.{sameObject}
 use Rattle.layout.specs.FactLaws.{same-object}
 use Rattle.free_table.specs.declared.TargetRecord.{TargetRecord}
 use Rattle.free_table.specs.Table.{targetOk, targetAbove, rising, tableOk}
-use Rattle.free_table.specs.Choosing.{nextObject, passing, chosen, raisedFirst}
+use Rattle.free_table.specs.TableLaws.{first-rises, rises-first, rising-lower}
+use Rattle.free_table.specs.Choosing.{nextObject, raised, passing, chosen, raisedFirst}
 
 -- A table that is not bad has at most 64 records, and their targets rise.
 pub table-facts : (rs : List TargetRecord) → tableOk rs ≡ true → (length rs ≤ 64) × (rising 0 rs ≡ true)
 unfolding tableOk
 table-facts rs e = let p = both-true (leb (length rs) 64) (rising 0 rs) e in (leb-true (length rs) 64 (p .0), p .1)
-
--- What the first record of a rising table says: its target is in bounds, and those behind it are above it.
-module _ (from : ℕ) (r : TargetRecord) (rs : List TargetRecord) where
-  pub first-rises : rising from (r ∷ rs) ≡ true → (from ≤ r .target) × (r .target ≤ 65534) × (rising (r .target + 1) rs ≡ true)
-  first-rises e =
-      let p = both-true (leb from (r .target) && leb (r .target) 65534) (rising (r .target + 1) rs) e in
-      let q = both-true (leb from (r .target)) (leb (r .target) 65534) (p .0) in
-      (leb-true from (r .target) (q .0), leb-true (r .target) 65534 (q .1), p .1)
-
-  pub rises-first : from ≤ r .target → r .target ≤ 65534 → rising (r .target + 1) rs ≡ true → rising from (r ∷ rs) ≡ true
-  rises-first h k e = true-both (true-both (le-leb from (r .target) h) (le-leb (r .target) 65534 k)) e
-
--- Records that rise from a target on rise from each lower one on.
-pub rising-lower : (low from : ℕ) (rs : List TargetRecord) → low ≤ from → rising from rs ≡ true → rising low rs ≡ true
-rising-lower low from [] h e = refl
-rising-lower low from (r ∷ rs) h e = let p = first-rises from r rs e in rises-first low r rs (omega arith) (p .1) (p .2)
 
 -- The next objects of rising records have targets of at most 65,534,
 next-targets : (from : ℕ) (rs : List TargetRecord) → rising from rs ≡ true → (i : ℕ) → i < length (map nextObject rs)
@@ -105,6 +91,35 @@ module _ (ok : TargetRecord → Bool) where
   pub raised-none : (rs : List TargetRecord) → raisedFirst ok 0 rs ≡ rs
   raised-none [] = refl
   raised-none (r ∷ rs) = refl
+
+  -- Of two lists of records, one behind the other, the second is asked for what the first leaves to be chosen,
+  pub chosen-append : (s : ℕ) (rs qs : List TargetRecord)
+      → chosen ok s (rs ++ qs) ≡ chosen ok s rs ++ chosen ok (s - length (chosen ok s rs)) qs
+  chosen-append s [] qs = rw (chosen-nil s, sub-zero s)
+  chosen-append zero (r ∷ rs) qs = rw (chosen-none (r ∷ (rs ++ qs)), chosen-none (r ∷ rs), chosen-none qs)
+  chosen-append (suc s) (r ∷ rs) qs =
+      rw (chosen-cons s r (rs ++ qs), chosen-cons s r rs)
+      (bool-cases (ok r)
+      (λ e. rw (e, suc-sub-suc) (ap (λ (os : List Object). nextObject r ∷ os) (chosen-append s rs qs)))
+      (λ e. rw e (chosen-append (suc s) rs qs)))
+
+  -- and so is what is raised.
+  pub raised-append : (s : ℕ) (rs qs : List TargetRecord)
+      → raisedFirst ok s (rs ++ qs) ≡ raisedFirst ok s rs ++ raisedFirst ok (s - length (chosen ok s rs)) qs
+  raised-append s [] qs = rw (chosen-nil s, sub-zero s)
+  raised-append zero (r ∷ rs) qs = rw (chosen-none (r ∷ rs), raised-none qs)
+  raised-append (suc s) (r ∷ rs) qs =
+      rw (chosen-cons s r rs)
+      (bool-cases (ok r)
+      (λ e. rw (e, suc-sub-suc) (ap (λ (ts : List TargetRecord). raised r ∷ ts) (raised-append s rs qs)))
+      (λ e. rw e (ap (λ (ts : List TargetRecord). r ∷ ts) (raised-append (suc s) rs qs))))
+
+  -- The table behind the choice has as many records.
+  pub length-raised : (s : ℕ) (rs : List TargetRecord) → length (raisedFirst ok s rs) ≡ length rs
+  length-raised s [] = refl
+  length-raised zero (r ∷ rs) = refl
+  length-raised (suc s) (r ∷ rs) =
+      bool-cases (ok r) (λ e. rw e (ap suc (length-raised s rs))) (λ e. rw e (ap suc (length-raised (suc s) rs)))
 
   -- The records that pass rise as the table does,
   passing-rises : (from : ℕ) (rs : List TargetRecord) → rising from rs ≡ true → rising from (passing ok rs) ≡ true

@@ -1,3 +1,4 @@
 pub mod Table
 pub mod Choosing
+pub mod TableLaws
 pub mod ChoosingLaws

@@ -1,0 +1,54 @@
+-- `free_table::is_low` meets its contract: the target is low in the table exactly if it is low in the records from i on.
+use Prim.Native.Nat.{_+_, _≤_, _-_}
+use mathlib.Core.Path.{_≡_, refl, sym, _∙_}
+use mathlib.Core.List.{_∷_}
+use native.Mathlib.Omega.{arith}
+use lib.ListN.{length, getD, take}
+use lib.Seq.{slice}
+use borrow.Author.Tests.{eq-eqb, ne-eqb}
+use borrow.Author.Needs.{needs}
+use Rattle.lists.specs.Slices.{unmapped, slice-next, slice-done}
+use Rattle.free_table.specs.Table.{noRecord, isLow}
+use Rattle.free_table.proofs.is_low.Statement.{statement}
+use Rattle.free_table.proofs.is_low.Tie as tie
+
+abbrev Inv-loop : tie.InvT-loop
+Inv-loop mark target t n i₀ i =
+    (i ≤ n) × (isLow mark (take n (t .records)) target ≡ isLow mark (slice i n (t .records)) target)
+
+abbrev μ-loop : tie.MeasureT-loop
+μ-loop mark target t n i₀ i = n - i
+
+loop-holds : tie.Need-loop-holds Inv-loop μ-loop
+loop-holds c = (search needs, refl)
+
+-- The records from i on are record i and those behind it.
+next : (c : tie.In-loop Inv-loop μ-loop) → let i = c .before .loop .i in
+    let t = c .before .before .args .t1 in
+    slice i (t .count) (t .records) ≡ getD (t .records) i noRecord ∷ slice (i + 1) (t .count) (t .records)
+next c =
+    let s = c .before .before in
+    let rs = s .args .t1 .records in
+    let h : length rs ≡ 65 = unmapped rs _ (s .good .0 .1 .1 .1 .0 .1 .0 .1) in
+    slice-next rs (s .args .t1 .count) (c .before .loop .i) noRecord (c .loop-test .taken) (omega arith)
+
+returns : tie.Need-returns Inv-loop μ-loop
+returns c =
+    let turn = c .before .before .before .before in
+    sym (turn .before .loop .inv .1 ∙ rw (next turn, eq-eqb _ _ (c .before .if1 .taken), ← c .free-below .ensures))
+
+loop-again : tie.Need-loop-again Inv-loop μ-loop
+loop-again c =
+    let turn = c .before .before .before in
+    (omega arith, turn .before .loop .inv .1 ∙ rw (next turn, ne-eqb _ _ (c .if1 .left)))
+
+returns-2 : tie.Need-returns-2 Inv-loop μ-loop
+returns-2 c =
+    let p = c .before in
+    let t = p .before .args .t1 in
+    sym (p .loop .inv .1 ∙ rw (slice-done (t .records) (t .count) (p .loop .i) (c .loop-test .left)))
+
+pub is-low-spec : {M : Type 1} → statement M
+is-low-spec =
+    tie.close (tie.spec Inv-loop μ-loop loop-holds (λ c. search needs) (λ c. search needs) (λ c κs. search needs) returns
+    (λ c. search needs) (λ c. search needs) loop-again returns-2)

@@ -1,0 +1,60 @@
+-- `free_table::targets_rise` meets its contract: the records rise exactly if those from i on rise from the lowest target that may
+-- stand there.
+use Prim.Native.Nat.{_+_, _≤_, _-_}
+use mathlib.Core.Path.{_≡_, refl, sym, _∙_}
+use mathlib.Core.List.{_∷_}
+use native.Mathlib.Omega.{arith}
+use lib.ListN.{length, getD, take}
+use lib.Seq.{slice}
+use borrow.Author.Tests.{le-leb, lt-leb}
+use borrow.Author.Needs.{needs}
+use Rattle.lists.specs.Slices.{unmapped, slice-next, slice-done}
+use Rattle.free_table.specs.Table.{noRecord, rising}
+use Rattle.free_table.proofs.targets_rise.Statement.{statement}
+use Rattle.free_table.proofs.targets_rise.Tie as tie
+
+abbrev Inv-loop : tie.InvT-loop
+Inv-loop t n from₀ i₀ from i =
+    (i ≤ n) × (rising 0 (take n (t .records)) ≡ rising from (slice i n (t .records)))
+
+abbrev μ-loop : tie.MeasureT-loop
+μ-loop t n from₀ i₀ from i = n - i
+
+loop-holds : tie.Need-loop-holds Inv-loop μ-loop
+loop-holds c = (search needs, refl)
+
+-- The records from i on are record i and those behind it.
+next : (c : tie.In-loop Inv-loop μ-loop) → let i = c .before .loop .i in
+    let t = c .before .before .args .t1 in
+    slice i (t .count) (t .records) ≡ getD (t .records) i noRecord ∷ slice (i + 1) (t .count) (t .records)
+next c =
+    let s = c .before .before in
+    let rs = s .args .t1 .records in
+    let h : length rs ≡ 65 = unmapped rs _ (s .good .0 .1 .1 .1 .0 .1 .0 .1) in
+    slice-next rs (s .args .t1 .count) (c .before .loop .i) noRecord (c .loop-test .taken) (omega arith)
+
+returns : tie.Need-returns Inv-loop μ-loop
+returns c = let turn = c .before in sym (turn .before .loop .inv .1 ∙ rw (next turn, lt-leb _ _ (c .if1 .taken)))
+
+returns-2 : tie.Need-returns-2 Inv-loop μ-loop
+returns-2 c =
+    let turn = c .before .before in
+    sym (turn .before .loop .inv .1 ∙ rw (next turn, le-leb _ _ (c .before .if1 .left), lt-leb _ _ (c .if2 .taken)))
+
+loop-again : tie.Need-loop-again Inv-loop μ-loop
+loop-again c =
+    let turn = c .before .before in (
+      omega arith,
+      turn .before .loop .inv .1 ∙ rw (next turn, le-leb _ _ (c .before .if1 .left), le-leb _ _ (c .if2 .left)),
+    )
+
+returns-3 : tie.Need-returns-3 Inv-loop μ-loop
+returns-3 c =
+    let p = c .before in
+    let t = p .before .args .t1 in
+    sym (p .loop .inv .1 ∙ rw (slice-done (t .records) (t .count) (p .loop .i) (c .loop-test .left)))
+
+pub targets-rise-spec : {M : Type 1} → statement M
+targets-rise-spec =
+    tie.close (tie.spec Inv-loop μ-loop loop-holds (λ c. search needs) (λ c. search needs) returns returns-2
+    (λ c. search needs) (λ c. search needs) (λ c. search needs) loop-again returns-3)

@@ -6,7 +6,7 @@ use mathlib.Core.Bool.{Bool, true, cond}
 use native.Mathlib.Omega.{arith}
 use native.Mathlib.Nat.{sub-zero, suc-sub-suc}
 use lib.Dec.{leb}
-use lib.ListN.{length, getD, take, length-take, length-map}
+use lib.ListN.{length, getD, take, length-take, length-map, List·getD-map}
 use borrow.Author.Tests.{leb-true, ne-eqb}
 use Rattle.lists.specs.Bools.{cond-elim, bool-cases, both-true}
 use Rattle.lists.specs.Tests.{along, take-along, every-take}
@@ -16,8 +16,8 @@ use Rattle.layout.specs.Records.{noObject}
 use Rattle.layout.specs.Distinct.{sameObject}
 use Rattle.layout.specs.FactLaws.{same-object}
 use Rattle.free_table.specs.declared.TargetRecord.{TargetRecord}
-use Rattle.free_table.specs.Table.{targetOk, targetAbove, rising, tableOk}
-use Rattle.free_table.specs.TableLaws.{first-rises, rises-first, rising-lower}
+use Rattle.free_table.specs.Table.{noRecord, targetOk, targetAbove, rising, tableOk}
+use Rattle.free_table.specs.TableLaws.{first-rises, rises-first, rising-lower, target-most, target-rises}
 use Rattle.free_table.specs.Choosing.{nextObject, raised, passing, chosen, raisedFirst}
 
 -- A table that is not bad has at most 64 records, and their targets rise.
@@ -25,14 +25,11 @@ pub table-facts : (rs : List TargetRecord) → tableOk rs ≡ true → (length r
 unfolding tableOk
 table-facts rs e = let p = both-true (leb (length rs) 64) (rising 0 rs) e in (leb-true (length rs) 64 (p .0), p .1)
 
--- The next objects of rising records have targets of at most 65,534,
-next-targets : (from : ℕ) (rs : List TargetRecord) → rising from rs ≡ true → (i : ℕ) → i < length (map nextObject rs)
-    → getD (map nextObject rs) i noObject .target ≤ 65534
-next-targets from [] e i h = absurd (omega arith)
-next-targets from (r ∷ rs) e zero h = first-rises from r rs e .1
-next-targets from (r ∷ rs) e (suc i) h = next-targets (r .target + 1) rs (first-rises from r rs e .2) i (omega arith)
+-- The next object of the record at a place.
+pub next-at : (rs : List TargetRecord) (i : ℕ) → getD (map nextObject rs) i noObject ≡ nextObject (getD rs i noRecord)
+next-at rs i = List·getD-map nextObject rs i noRecord
 
--- none of them has a target below those of the records,
+-- Of the next objects of rising records, none has a target below those of the records,
 next-above : (from : ℕ) (rs : List TargetRecord) → rising from rs ≡ true → (o : Object) → o .target < from
     → count sameObject o (map nextObject rs) ≡ 0
 unfolding sameObject
@@ -140,7 +137,18 @@ module _ (ok : TargetRecord → Bool) where
   module _ (from s : ℕ) (rs : List TargetRecord) (e : rising from rs ≡ true) where
     pub chosen-targets : (i : ℕ) → i < length (chosen ok s rs) → getD (chosen ok s rs) i noObject .target ≤ 65534
     unfolding chosen
-    chosen-targets i h = next-targets from (take s (passing ok rs)) (first-rise from s rs e) i h
+    chosen-targets i h =
+        let qs = take s (passing ok rs) in
+        rw (next-at qs i) (target-most from qs (first-rise from s rs e) i (omega (arith, length-map qs nextObject)))
+
+    -- which rise,
+    pub chosen-rise : (i j : ℕ) → i < j → j < length (chosen ok s rs)
+        → getD (chosen ok s rs) i noObject .target < getD (chosen ok s rs) j noObject .target
+    unfolding chosen
+    chosen-rise i j h k =
+        let qs = take s (passing ok rs) in
+        rw (next-at qs i, next-at qs j)
+        (target-rises from qs (first-rise from s rs e) i j h (omega (arith, length-map qs nextObject)))
 
     -- no object below the lowest target of the table,
     pub chosen-above : (o : Object) → o .target < from → count sameObject o (chosen ok s rs) ≡ 0

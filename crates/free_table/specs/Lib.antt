@@ -2,3 +2,4 @@ pub mod Table
 pub mod Choosing
 pub mod TableLaws
 pub mod ChoosingLaws
+pub mod ChosenLaws

@@ -1,6 +1,6 @@
 -- Laws of the free table: rising targets, low targets and usable ones.
 use Prim.Native.Nat.{ℕ, zero, suc, _+_, _≤_, _<_}
-use mathlib.Core.Path.{_≡_, refl}
+use mathlib.Core.Path.{_≡_, refl, _∙_}
 use mathlib.Core.List.{List, [], _∷_}
 use mathlib.Core.Bool.{true, false, not, _&&_}
 use native.Mathlib.Omega.{arith}
@@ -27,13 +27,30 @@ pub rising-lower : (low from : ℕ) (rs : List TargetRecord) → low ≤ from �
 rising-lower low from [] h e = refl
 rising-lower low from (r ∷ rs) h e = let p = first-rises from r rs e in rises-first low r rs (omega arith) (p .1) (p .2)
 
--- The target of each record of a table that rises from a target on is at least that.
+-- The targets of a rising table, by their places. They are at least the target that the table rises from,
 pub target-above : (from : ℕ) (rs : List TargetRecord) → rising from rs ≡ true → (i : ℕ) → i < length rs
     → from ≤ getD rs i noRecord .target
 target-above from [] e i h = absurd (omega arith)
 target-above from (r ∷ rs) e zero h = first-rises from r rs e .0
 target-above from (r ∷ rs) e (suc i) h =
     let p = first-rises from r rs e in omega (arith, target-above (r .target + 1) rs (p .2) i (omega arith))
+
+-- at most 65,534,
+pub target-most : (from : ℕ) (rs : List TargetRecord) → rising from rs ≡ true → (i : ℕ) → i < length rs
+    → getD rs i noRecord .target ≤ 65534
+target-most from [] e i h = absurd (omega arith)
+target-most from (r ∷ rs) e zero h = first-rises from r rs e .1
+target-most from (r ∷ rs) e (suc i) h = target-most (r .target + 1) rs (first-rises from r rs e .2) i (omega arith)
+
+-- and each is below those behind it.
+pub target-rises : (from : ℕ) (rs : List TargetRecord) → rising from rs ≡ true → (i j : ℕ) → i < j → j < length rs
+    → getD rs i noRecord .target < getD rs j noRecord .target
+target-rises from [] e i j h k = absurd (omega arith)
+target-rises from (r ∷ rs) e i zero h k = absurd (omega arith)
+target-rises from (r ∷ rs) e zero (suc j) h k =
+    omega (arith, target-above (r .target + 1) rs (first-rises from r rs e .2) j (omega arith))
+target-rises from (r ∷ rs) e (suc i) (suc j) h k =
+    target-rises (r .target + 1) rs (first-rises from r rs e .2) i j (omega arith) (omega arith)
 
 -- In a rising table a record's target is low exactly if that record's free bytes are below the mark.
 pub low-record : (mark from : ℕ) (rs : List TargetRecord) → rising from rs ≡ true → (i : ℕ) → i < length rs
@@ -59,7 +76,17 @@ module _ (mark : ℕ) (r : TargetRecord) (e : usable mark r ≡ true) where
       ltb-true (r .next) 18446744073709551615
       (both-true (not (freeBelow mark r)) (ltb (r .next) 18446744073709551615) e .1)
 
--- In a rising table the target of a usable record is not low.
+-- In a rising table a record is usable exactly if its target is not low and its next number is below 2^64 - 1;
+pub usable-record : (mark from : ℕ) (rs : List TargetRecord) → rising from rs ≡ true → (i : ℕ) → i < length rs
+    → usable mark (getD rs i noRecord)
+    ≡ (not (isLow mark rs (getD rs i noRecord .target)) && ltb (getD rs i noRecord .next) 18446744073709551615)
+unfolding usable
+usable-record mark from rs e i h = rw (low-record mark from rs e i h)
+
+-- so the target of a usable record is not low, and its next number is below 2^64 - 1.
 pub usable-not-low : (mark from : ℕ) (rs : List TargetRecord) → rising from rs ≡ true → (i : ℕ) → i < length rs
-    → usable mark (getD rs i noRecord) ≡ true → isLow mark rs (getD rs i noRecord .target) ≡ false
-usable-not-low mark from rs e i h u = rw (low-record mark from rs e i h) (usable-free mark (getD rs i noRecord) u)
+    → usable mark (getD rs i noRecord) ≡ true
+    → (isLow mark rs (getD rs i noRecord .target) ≡ false) × (getD rs i noRecord .next < 18446744073709551615)
+usable-not-low mark from rs e i h u =
+    let r = getD rs i noRecord in
+    (low-record mark from rs e i h ∙ usable-free mark r u, usable-next mark r u)

@@ -14,11 +14,9 @@ use Rattle.free_table.proofs.taken.Tie as tie
 
 returns : tie.Need-returns
 returns c =
-    let a = c .before .args in (
-      sym (rw (c .if1 .taken, chosen-none (usable (a .mark)) (a .r ∷ []))),
-      omega arith,
-      omega arith,
-    )
+    let a = c .before .args in
+    let e : a .left ≡ 0 = omega arith in
+    (sym (rw (e, chosen-none (usable (a .mark)) (a .r ∷ []))), omega arith, omega arith)
 
 returns-2 : tie.Need-returns-2
 returns-2 c =

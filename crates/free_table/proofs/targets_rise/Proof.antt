@@ -1,6 +1,6 @@
 -- `free_table::targets_rise` meets its contract: the records rise exactly if those from i on rise from the lowest target that may
 -- stand there.
-use Prim.Native.Nat.{_+_, _≤_, _-_}
+use Prim.Native.Nat.{ℕ, _+_, _≤_, _<_, _-_}
 use mathlib.Core.Path.{_≡_, refl, sym, _∙_}
 use mathlib.Core.List.{_∷_}
 use native.Mathlib.Omega.{arith}
@@ -33,20 +33,24 @@ next c =
     let h : length rs ≡ 65 = unmapped rs _ (s .good .0 .1 .1 .1 .0 .1 .0 .1) in
     slice-next rs (s .args .t1 .count) (c .before .loop .i) noRecord (c .loop-test .taken) (omega arith)
 
+-- The target of record i.
+abbrev targetAt : tie.In-loop Inv-loop μ-loop → ℕ
+targetAt c = getD (c .before .before .args .t1 .records) (c .before .loop .i) noRecord .target
+
 returns : tie.Need-returns Inv-loop μ-loop
 returns c = let turn = c .before in sym (turn .before .loop .inv .1 ∙ rw (next turn, lt-leb _ _ (c .if1 .taken)))
 
 returns-2 : tie.Need-returns-2 Inv-loop μ-loop
 returns-2 c =
     let turn = c .before .before in
-    sym (turn .before .loop .inv .1 ∙ rw (next turn, le-leb _ _ (c .before .if1 .left), lt-leb _ _ (c .if2 .taken)))
+    let h : 65534 < targetAt turn = omega arith in
+    sym (turn .before .loop .inv .1 ∙ rw (next turn, le-leb _ _ (c .before .if1 .left), lt-leb _ _ h))
 
 loop-again : tie.Need-loop-again Inv-loop μ-loop
 loop-again c =
-    let turn = c .before .before in (
-      omega arith,
-      turn .before .loop .inv .1 ∙ rw (next turn, le-leb _ _ (c .before .if1 .left), le-leb _ _ (c .if2 .left)),
-    )
+    let turn = c .before .before in
+    let h : targetAt turn ≤ 65534 = omega arith in
+    (omega arith, turn .before .loop .inv .1 ∙ rw (next turn, le-leb _ _ (c .before .if1 .left), le-leb _ _ h))
 
 returns-3 : tie.Need-returns-3 Inv-loop μ-loop
 returns-3 c =

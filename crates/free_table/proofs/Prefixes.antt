@@ -20,7 +20,7 @@ use Rattle.free_table.specs.ChoosingLaws.{chosen-append, raised-append, 
 use Rattle.free_table.proofs.OneRecord.{one-raised}
 
 -- A choice of some objects with more behind them is the choice of both.
-pub more-chosen : (os more : List Object) → withMore (choiceOf os) more ≡ choiceOf (os ++ more)
+more-chosen : (os more : List Object) → withMore (choiceOf os) more ≡ choiceOf (os ++ more)
 unfolding packObjects
 more-chosen os more =
     let n : length os + length more ≡ length (os ++ more) = sym (length-append os more) in
@@ -28,7 +28,7 @@ more-chosen os more =
     sym (sets-append (replicate 16 noObject) 0 os more ∙ rw zero-add) in
     λ i. record { count = n i; objects = x i }
 
--- The first object of at most 16 that are packed is the first of them, and blank where there is none.
+-- Where the targets of at most 16 objects are at most n, so is that in the first place that they are packed into, blank or not.
 pub first-packed : (os : List Object) (n : ℕ) → length os ≤ 16 → ((i : ℕ) → i < length os → getD os i noObject .target ≤ n)
     → getD (packObjects os) 0 noObject .target ≤ n
 unfolding packObjects

@@ -3,3 +3,4 @@ pub mod Steps
 pub mod Growing
 pub mod Moments
 pub mod StepLaws
+pub mod PartLaws

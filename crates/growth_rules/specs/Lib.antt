@@ -4,3 +4,5 @@ pub mod Growing
 pub mod Moments
 pub mod StepLaws
 pub mod PartLaws
+pub mod Keeping
+pub mod KeepingLaws

@@ -168,9 +168,9 @@ kept-renewed {to = to} {t' = t'} {os = os} c c' t f r at wider kept = record {
 }
 
 -- An init component is added before those that are changed.
-pub kept-added : {from to : ℕ} {may : Bool} {t t' : List Component} (c : Component) → IsInit c → 1 ≤ c .id → c .begin ≡ to
-    → Kept from (c .end) true t t' [] [] → Kept from to may t (c ∷ t') (recordsOf c) (c .id ∷ [])
-kept-added {t = t} {t' = t'} c is id at kept = record {
+pub kept-added : {from to : ℕ} {may : Bool} {t t' : List Component} {os : List Object} (c : Component) → IsInit c → recordsOf c ≡ os → 1 ≤ c .id → c .begin ≡ to
+    → Kept from (c .end) true t t' [] [] → Kept from to may t (c ∷ t') os (c .id ∷ [])
+kept-added {t' = t'} c is same id at kept = record {
   fields = (id, isInit is, kept .fields);
   linked = (
     at,
@@ -183,7 +183,12 @@ kept-added {t = t} {t' = t'} c is id at kept = record {
       let above = reading-above read b a (c .end) true t' (kept .fields) (kept .linked) there in
       reading-behind read b a c t' (past-init c b above) ∙ there;
   ends = kept .ends;
-  objects = λ o. omega (arith, kept .objects o, count-append sameObject o (recordsOf c) (recordsIn t'));
+  objects = λ o. omega (
+    arith,
+    kept .objects o,
+    count-append sameObject o (recordsOf c) (recordsIn t'),
+    ap (λ (os : List Object). count sameObject o os) same,
+  );
   ids = λ i. omega (arith, kept .ids i);
 }
 

@@ -6,3 +6,5 @@ pub mod StepLaws
 pub mod PartLaws
 pub mod Keeping
 pub mod KeepingLaws
+pub mod RenewingLaws
+pub mod StepKeeping

@@ -7,4 +7,6 @@ pub mod PartLaws
 pub mod Keeping
 pub mod KeepingLaws
 pub mod RenewingLaws
+pub mod PartKeeping
 pub mod StepKeeping
+pub mod CallCases

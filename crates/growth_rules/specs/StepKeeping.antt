@@ -1,44 +1,31 @@
 -- Every step of growth keeps what a step keeps, case by case.
 use Prim.Native.Nat.{ℕ, _≤_, _<_}
-use mathlib.Core.Path.{_≡_, refl, sym, ap, _∙_}
+use mathlib.Core.Path.{_≡_, refl}
 use mathlib.Core.List.{List, [], _∷_}
 use mathlib.Core.Bool.{Bool, true, false, not, _&&_, _||_}
 use native.Mathlib.Omega.{arith}
 use lib.Dec.{ltb, leb, eqb}
-use lib.IntN.{pos}
-use lib.ListN.{length, getD}
+use lib.ListN.{length}
 use borrow.Author.Tests.{ltb-true, leb-true, eqb-true, not-true}
-use Rattle.lists.specs.Bools.{cond-elim, bool-cases, clash, both-true, both-false}
+use Rattle.lists.specs.Bools.{cond-elim, clash, both-true, both-false}
 use Rattle.lists.specs.Counting.{count}
 use Rattle.layout.specs.declared.Object.{Object}
 use Rattle.layout.specs.declared.Component.{Component}
-use Rattle.layout.specs.Records.{noObject, packObjects, recordsOf}
-use Rattle.layout.specs.RecordLaws.{records-pack}
+use Rattle.layout.specs.Records.{recordsOf}
 use Rattle.layout.specs.Distinct.{sameObject}
 use Rattle.layout.specs.Holder.{holds}
-use Rattle.layout.specs.Facts.{Striped, IsInit, IsExtension, IsBare, Kind, isInit, isExtension, isBare, Fields, Linked}
+use Rattle.layout.specs.Facts.{IsExtension, Fields, Linked}
 use Rattle.layout.specs.FactLaws.{kind-ordered, kind-init, kind-extension}
 use Rattle.free_table.specs.Table.{usable, tableOk, anyLow}
 use Rattle.free_table.specs.Choosing.{chosen}
 use Rattle.free_table.specs.ChoosingLaws.{table-facts, chosen-targets, chosen-once}
 use Rattle.growth_rules.specs.Parts.{withExtent, madeInit, repeatOf, reach, leaving, granting, following}
-use Rattle.growth_rules.specs.Steps.{Call, Step, lacks, changes, behind, stays, choosing, heldStep, spillStep, lowStep}
+use Rattle.growth_rules.specs.Steps.{Call, Step, stays, lacks, changes, behind, choosing, heldStep, spillStep, lowStep}
 use Rattle.growth_rules.specs.Steps.{extensionStep, stepOn}
-use Rattle.growth_rules.specs.Keeping.{Kept, Renewed, Chosen, Changed, StepKeeps}
-use Rattle.growth_rules.specs.RenewingLaws.{init-renewed, bare-renewed, repeat-init, repeat-records}
+use Rattle.growth_rules.specs.Keeping.{Kept, Chosen, Changed, StepKeeps}
 use Rattle.growth_rules.specs.KeepingLaws.{kept-same, kept-new, kept-behind, kept-gone, kept-renewed, kept-added, kept-leaving}
-
--- A component whose flags are both not set is bare.
-kind-bare : {c : Component} → Kind c → c .init ≡ false → c .extension ≡ false → IsBare c
-kind-bare (isInit k) i x = clash (k .init) i
-kind-bare (isExtension k) i x = clash (k .extension) x
-kind-bare (isBare k) i x = k
-
-
--- A component that stands directly behind an extension is none.
-behind-extension : (x n : Component) → (n .extension ≡ true → not (x .extension) ≡ true) → x .extension ≡ true
-    → n .extension ≡ false
-behind-extension x n may e = bool-cases (n .extension) (λ q. clash e (not-true (x .extension) (may q))) (λ q. q)
+use Rattle.growth_rules.specs.RenewingLaws.{init-renewed, bare-renewed, repeat-init, repeat-records}
+use Rattle.growth_rules.specs.PartKeeping.{kind-bare, granting-kept, following-kept, following-some}
 
 -- A component that holds a byte is not empty.
 holds-some : (c : Component) (b : ℕ) → holds c b ≡ true → c .begin < c .end
@@ -46,55 +33,154 @@ holds-some c b e =
     let p = both-true (leb (c .begin) b) (ltb b (c .end)) e in
     omega (arith, leb-true (c .begin) b (p .0), ltb-true b (c .end) (p .1))
 
--- A grant to a component, renewed or not: c' is c up to where it ends.
-granting-kept : {at : ℕ} {may : Bool} {os : List Object} (c c' x : Component) (t : List Component) → Fields (c ∷ x ∷ t)
-    → Linked false at may (c ∷ x ∷ t) → IsExtension x → c' .begin ≡ c .begin
-    → (c .begin < reach (x .begin) x → Renewed c (withExtent (c' .begin) (reach (x .begin) x) c') os)
-    → Kept at at may (c ∷ x ∷ t) (granting c' x t) os []
-unfolding granting
-granting-kept c c' x t f k is begin renewed =
-    let r = reach (x .begin) x in
-    let ordered = kind-ordered (f .1) in
-    let joined = k .3 .0 in
-    let size = is .size .nonzero in
-    let extent = is .extent in
-    kept-renewed c (withExtent (c' .begin) r c') (x ∷ t) f (renewed (omega arith)) (begin ∙ k .0) (λ i. (omega (arith, k .0), omega arith))
-    (kept-leaving (c .end) r (not (c .extension)) x t (f .2) (k .3) is (omega arith))
+-- The table of the call is not bad, and the id of a new component is at least 1.
+module _ (k : Call) (new : ℕ) (table : tableOk (k .table) ≡ true) (one : 1 ≤ new) where
+  -- As many object records as were asked for are chosen for that many stripes.
+  chosen-facts : (s : ℕ) → length (chosen (usable (k .mark)) s (k .table)) ≡ s → Chosen s (chosen (usable (k .mark)) s (k .table))
+  chosen-facts s e =
+      let rises = table-facts (k .table) table .1 in
+      record {
+        enough = e;
+        targets = chosen-targets (usable (k .mark)) 0 s (k .table) rises;
+        once = chosen-once (usable (k .mark)) 0 s (k .table) rises;
+      }
 
--- The component behind an extension that goes, made init, and what follows it.
-following-kept : {at : ℕ} {may : Bool} (x n : Component) (t : List Component) (os : List Object) → Fields (x ∷ n ∷ t)
-    → Linked false at may (x ∷ n ∷ t) → IsExtension x → n .init ≡ false → Chosen (n .«stripe_count») os
-    → Kept at at may (x ∷ n ∷ t) (following (x .begin) (madeInit os n) t) os []
-unfolding following
-following-kept {at} {may} x n t os f k is i ch = go t (f .2) (k .3)
-  where
-    bare : IsBare n
-    bare = kind-bare (f .2 .1) i (behind-extension x n (k .3 .1) (is .extension))
+  module _ (at : ℕ) (may : Bool) where
+    -- A choice keeps it if what is made of the chosen records does, and what stands in for a choice.
+    choosing-keeps : (t : List Component) (s : ℕ) (made : List Object → List Component) (other : Step)
+        → ((os : List Object) → Chosen s os → Changed new at may t (made os) os) → StepKeeps new at may t other
+        → StepKeeps new at may t (choosing k s made other)
+    unfolding choosing
+    choosing-keeps t s made other keeps otherwise =
+        let os = chosen (usable (k .mark)) s (k .table) in
+        cond-elim (StepKeeps new at may t) (eqb (length os) s) (λ e. keeps os (chosen-facts s (eqb-true (length os) s e)))
+        (λ e. otherwise)
 
-    -- It begins where the extension did, and ends at `end`; t' stand behind it.
-    moved : (end : ℕ) (t t' : List Component) → Fields (n ∷ t) → x .begin < end → Kept (n .end) end true t t' [] []
-        → Kept at at may (x ∷ n ∷ t) (withExtent (x .begin) end (madeInit os n) ∷ t') os []
-    moved end t t' f h kept =
-        kept-gone x is
-        (kept-renewed n (withExtent (x .begin) end (madeInit os n)) t f (bare-renewed n (x .begin) end os bare ch h) (k .0) (λ q. clash q i) kept)
+    held-keeps : (c : Component) (t : List Component) → Fields (c ∷ t) → Linked false at may (c ∷ t) → c .begin < c .end
+        → StepKeeps new at may (c ∷ t) (heldStep k c t)
+    unfolding heldStep
+    held-keeps c t f l h =
+        cond-elim (StepKeeps new at may (c ∷ t)) (c .init || c .extension) (λ e. tt)
+        (λ e. let p = both-false (c .init) (c .extension) e in
+        choosing-keeps (c ∷ t) (c .«stripe_count») (λ os. madeInit os c ∷ t) lacks
+        (λ os ch. record {
+          some = omega arith;
+          first = refl;
+          once = ch .once;
+          kept = kept-new new
+              (kept-renewed c (madeInit os c) t f (bare-renewed c (c .begin) (c .end) os (kind-bare (f .1) (p .0) (p .1)) ch h)
+              (l .0) (λ i. clash i (p .0)) (kept-same (c .end) (not (c .extension)) t (f .2) (l .3)));
+        })
+        tt)
 
-    below : x .begin < n .end
-    below = omega (arith, is .extent, k .3 .0, kind-ordered (f .2 .1))
+    -- The extension x directly behind the component c.
+    module _ (c x : Component) (is : IsExtension x) where
+      -- A grant to c, which is init.
+      granting-keeps : (t : List Component) → Fields (c ∷ x ∷ t) → Linked false at may (c ∷ x ∷ t) → c .init ≡ true
+          → Changed new at may (c ∷ x ∷ t) (granting c x t) []
+      unfolding granting
+      granting-keeps t f l i = record {
+        some = omega arith;
+        first = refl;
+        once = λ o. omega arith;
+        kept = kept-new new
+            (granting-kept c c x t f l is refl (λ h. init-renewed c (c .begin) (reach (x .begin) x) (kind-init (f .1) i) h));
+      }
 
-    plain : (t : List Component) → Fields (n ∷ t) → Linked false (x .end) (not (x .extension)) (n ∷ t)
-        → Kept at at may (x ∷ n ∷ t) (withExtent (x .begin) (n .end) (madeInit os n) ∷ t) os []
-    plain t f k = moved (n .end) t t f below (kept-same (n .end) (not (n .extension)) t (f .2) (k .3))
+      -- Behind c, which is init and stays.
+      behind-init : (t t' : List Component) (os : List Object) → Fields (c ∷ x ∷ t) → Linked false at may (c ∷ x ∷ t) → c .init ≡ true
+          → 1 ≤ length t' → ((o : Object) → count sameObject o os ≤ 1)
+          → Kept (c .end) (c .end) (not (c .extension)) (x ∷ t) t' os (new ∷ []) → Changed new at may (c ∷ x ∷ t) (c ∷ t') os
+      behind-init t t' os f l i filled once kept = record {
+        some = omega arith;
+        first = refl;
+        once = once;
+        kept = kept-behind c (x ∷ t) f l filled (λ q. clash i q) kept;
+      }
 
-    go : (t : List Component) → Fields (n ∷ t) → Linked false (x .end) (not (x .extension)) (n ∷ t)
-        → Kept at at may (x ∷ n ∷ t) (following (x .begin) (madeInit os n) t) os []
-    go [] f k = plain [] f k
-    go (y ∷ t) f k =
-        cond-elim (λ (u : List Component). Kept at at may (x ∷ n ∷ y ∷ t) u os []) (y .extension)
-        (λ e. let isy = kind-extension (f .2 .1) e in
-        let size = isy .size .nonzero in
-        let extent = isy .extent in
-        let joined = k .3 .0 in
-        let start = below in
-        moved (reach (x .begin) y) (y ∷ t) (leaving (reach (x .begin) y) y t) f (omega arith)
-        (kept-leaving (n .end) (reach (x .begin) y) (not (n .extension)) y t (f .2) (k .3) isy (omega arith)))
-        (λ e. plain (y ∷ t) f k)
+      spill-keeps : (n : Component) (t : List Component) → Fields (c ∷ x ∷ n ∷ t) → Linked false at may (c ∷ x ∷ n ∷ t) → c .init ≡ true
+          → StepKeeps new at may (c ∷ x ∷ n ∷ t) (spillStep k c x n t)
+      unfolding spillStep
+      spill-keeps n t f l i =
+          cond-elim (StepKeeps new at may (c ∷ x ∷ n ∷ t)) (n .init)
+          (λ q. let longer : x .begin < n .end = omega (arith, is .extent, l .3 .3 .0, kind-ordered (f .2 .2 .1)) in
+          let renewed = init-renewed n (x .begin) (n .end) (kind-init (f .2 .2 .1) q) longer in
+          behind-init (n ∷ t) (withExtent (x .begin) (n .end) n ∷ t) [] f l i (omega arith) (λ o. omega arith)
+          (kept-new new
+          (kept-gone x is
+          (kept-renewed n (withExtent (x .begin) (n .end) n) t (f .2 .2) renewed (l .3 .0)
+          (λ e. (omega (arith, is .extent, l .3 .0, l .3 .3 .0), omega arith))
+          (kept-same (n .end) (not (n .extension)) t (f .2 .2 .2) (l .3 .3 .3))))))
+          (λ q. choosing-keeps (c ∷ x ∷ n ∷ t) (n .«stripe_count») (λ os. c ∷ following (x .begin) (madeInit os n) t) lacks
+          (λ os ch. behind-init (n ∷ t) (following (x .begin) (madeInit os n) t) os f l i (following-some (x .begin) (madeInit os n) t) (ch .once)
+          (kept-new new (following-kept x n t os (f .2) (l .3) is q ch)))
+          tt)
+
+      repeat-keeps : (os : List Object) → Fields (c ∷ x ∷ []) → Linked false at may (c ∷ x ∷ []) → c .init ≡ true → Chosen (c .«stripe_count») os
+          → Changed new at may (c ∷ x ∷ [])
+          (c ∷ repeatOf new c (x .begin) (reach (x .begin) x) os ∷ leaving (reach (x .begin) x) x []) os
+      repeat-keeps os f l i ch =
+          let r = reach (x .begin) x in
+          let size = is .size .nonzero in
+          let extent = is .extent in
+          let kind = kind-init (f .1) i in
+          behind-init [] (repeatOf new c (x .begin) r os ∷ leaving r x []) os f l i (omega arith) (ch .once)
+          (kept-added (repeatOf new c (x .begin) r os) (repeat-init new c (x .begin) r os kind ch (omega arith))
+          (repeat-records new c (x .begin) r os kind ch) one (l .3 .0)
+          (kept-leaving (c .end) r (not (c .extension)) x [] (f .2) (l .3) is (omega arith)))
+
+      low-keeps : (t : List Component) → Fields (c ∷ x ∷ t) → Linked false at may (c ∷ x ∷ t) → c .init ≡ true
+          → StepKeeps new at may (c ∷ x ∷ t) (lowStep k new c x t)
+      unfolding lowStep
+      low-keeps [] f l i =
+          choosing-keeps (c ∷ x ∷ []) (c .«stripe_count»)
+          (λ os. c ∷ repeatOf new c (x .begin) (reach (x .begin) x) os ∷ leaving (reach (x .begin) x) x [])
+          (changes (granting c x []) [])
+          (λ os ch. repeat-keeps os f l i ch)
+          (granting-keeps [] f l i)
+      low-keeps (n ∷ t) f l i = spill-keeps n t f l i
+
+      extension-keeps : (t : List Component) → Fields (c ∷ x ∷ t) → Linked false at may (c ∷ x ∷ t)
+          → StepKeeps new at may (c ∷ x ∷ t) (extensionStep k new c x t)
+      unfolding extensionStep granting
+      extension-keeps t f l =
+          cond-elim (StepKeeps new at may (c ∷ x ∷ t)) (c .init)
+          (λ i. cond-elim (StepKeeps new at may (c ∷ x ∷ t)) (anyLow (k .mark) (k .table) (recordsOf c)) (λ e. low-keeps t f l i)
+          (λ e. granting-keeps t f l i))
+          (λ i. choosing-keeps (c ∷ x ∷ t) (c .«stripe_count») (λ os. granting (madeInit os c) x t) lacks
+          (λ os ch. let bare = kind-bare (f .1) i (not-true (c .extension) (l .3 .1 (is .extension))) in
+          record {
+            some = omega arith;
+            first = refl;
+            once = ch .once;
+            kept = kept-new new
+                (granting-kept c (madeInit os c) x t f l is refl (λ h. bare-renewed c (c .begin) (reach (x .begin) x) os bare ch h));
+          })
+          tt)
+
+  -- A step behind a component.
+  behind-keeps : {at : ℕ} {may : Bool} (c x : Component) (t : List Component) → Fields (c ∷ x ∷ t) → Linked false at may (c ∷ x ∷ t) → (s : Step)
+      → StepKeeps new (c .end) (not (c .extension)) (x ∷ t) s → StepKeeps new at may (c ∷ x ∷ t) (behind c s)
+  behind-keeps c x t f l stays kept = tt
+  behind-keeps c x t f l lacks kept = tt
+  behind-keeps c x t f l (changes t' os) kept = record {
+    some = omega arith;
+    first = refl;
+    once = kept .once;
+    kept = kept-behind c (x ∷ t) f l (kept .some) (λ i. kept .first) (kept .kept);
+  }
+
+  -- The step of a call keeps what a step keeps.
+  pub step-keeps : (at : ℕ) (may : Bool) (t : List Component) → Fields t → Linked false at may t
+      → StepKeeps new at may t (stepOn k new t)
+  unfolding stepOn
+  step-keeps at may [] f l = tt
+  step-keeps at may (c ∷ []) f l =
+      cond-elim (StepKeeps new at may (c ∷ [])) (holds c (k .offset))
+      (λ e. held-keeps at may c [] f l (holds-some c (k .offset) e)) (λ e. tt)
+  step-keeps at may (c ∷ x ∷ t) f l =
+      cond-elim (StepKeeps new at may (c ∷ x ∷ t)) (holds c (k .offset))
+      (λ e. held-keeps at may c (x ∷ t) f l (holds-some c (k .offset) e))
+      (λ e. cond-elim (StepKeeps new at may (c ∷ x ∷ t)) (x .extension && holds x (k .offset))
+      (λ q. extension-keeps at may c x (kind-extension (f .2 .1) (both-true (x .extension) (holds x (k .offset)) q .0)) t f l)
+      (λ q. behind-keeps c x t f l (stepOn k new (x ∷ t)) (step-keeps (c .end) (not (c .extension)) (x ∷ t) (f .2) (l .3))))

@@ -10,3 +10,6 @@ pub mod RenewingLaws
 pub mod PartKeeping
 pub mod StepKeeping
 pub mod CallCases
+pub mod ValidityLaws
+pub mod MomentLaws
+pub mod Demand3

@@ -35,14 +35,14 @@ pub record Demand3 (l : Layout) (ms : List Layout) : Type 0 where
 
 module _ (l : Layout) (ks : List Call) (v : valid l ≡ true) where
   -- Homes stay, as every reading does that does not look at the extent.
-  homes-stay : (i j : ℕ) → i ≤ j → j < length (moments l ks) → (b : ℕ) (h : Home) → homeOf b (view (getD (moments l ks) i l)) ≡ some h
-      → homeOf b (view (getD (moments l ks) j l)) ≡ some h
+  homes-stay : (i j : ℕ) → i ≤ j → j < length (moments l ks) → (b : ℕ) (h : Home)
+      → homeOf b (view (getD (moments l ks) i l)) ≡ some h → homeOf b (view (getD (moments l ks) j l)) ≡ some h
   unfolding homeOf
   homes-stay i j le k b h e = reading-kept l ks v homeIn home-no-extent i j le k b h e
 
   -- Two bytes with the same home at one moment are the same.
-  one-byte : (i : ℕ) → i < length (moments l ks) → (b b' : ℕ) (h : Home) → homeOf b (view (getD (moments l ks) i l)) ≡ some h
-      → homeOf b' (view (getD (moments l ks) i l)) ≡ some h → b ≡ b'
+  one-byte : (i : ℕ) → i < length (moments l ks) → (b b' : ℕ) (h : Home)
+      → homeOf b (view (getD (moments l ks) i l)) ≡ some h → homeOf b' (view (getD (moments l ks) i l)) ≡ some h → b ≡ b'
   one-byte i k b b' h e e' = home-once (valid-facts (getD (moments l ks) i l) (moment-valid l ks v i k) .keeps) b b' h e e'
 
 -- Demand 3: over every list of calls, from a valid layout.

@@ -7,7 +7,6 @@ use lib.ListN.{length}
 use Rattle.lists.specs.Tests.{anyOf}
 use Rattle.lists.specs.Counting.{elem}
 use Rattle.layout.specs.declared.Object.{Object}
-use Rattle.layout.specs.declared.Component.{Component}
 use Rattle.layout.specs.declared.Layout.{Layout}
 use Rattle.layout.specs.Records.{idsOf, recordsIn, view, packed}
 use Rattle.layout.specs.Distinct.{sameObject}

@@ -1,13 +1,13 @@
 -- The changes that steps are made of, and that each keeps what a step keeps.
-use Prim.Native.Nat.{ℕ, _+_, _≤_, _<_}
+use Prim.Native.Nat.{ℕ, _≤_, _<_}
 use mathlib.Core.Path.{_≡_, refl, sym, ap, _∙_}
 use mathlib.Core.List.{List, [], _∷_}
-use mathlib.Core.Option.{Option, some, Option·none-ne-some}
+use mathlib.Core.Option.{some, Option·none-ne-some}
 use mathlib.Core.Bool.{Bool, true, false, not, _&&_}
 use native.Mathlib.Omega.{arith}
 use lib.Dec.{ltb, leb, eqb}
-use lib.ListN.{length, getD}
-use borrow.Author.Tests.{ltb-true, leb-true, eqb-true, eqb-false, lt-ltb, le-ltb, le-leb, ne-eqb}
+use lib.ListN.{length}
+use borrow.Author.Tests.{ltb-true, leb-true, eqb-true, eqb-false, lt-ltb, le-leb, ne-eqb}
 use Rattle.lists.specs.Bools.{cond-elim, bool-cases, clash, both-true, true-both}
 use Rattle.lists.specs.Counting.{count, count-append}
 use Rattle.layout.specs.declared.Object.{Object}
@@ -15,11 +15,11 @@ use Rattle.layout.specs.declared.Component.{Component}
 use Rattle.layout.specs.Records.{recordsOf, recordsIn}
 use Rattle.layout.specs.Neighbours.{isEmpty}
 use Rattle.layout.specs.Distinct.{sameObject}
-use Rattle.layout.specs.Facts.{IsInit, IsExtension, Kind, isInit, isExtension, Fields, Follower, Linked}
+use Rattle.layout.specs.Facts.{IsInit, IsExtension, isInit, isExtension, Fields, Follower, Linked}
 use Rattle.layout.specs.FactLaws.{kind-ordered, startsExtension, follower-empty}
 use Rattle.mapping.specs.Homes.{initAt, readingOf}
 use Rattle.growth_rules.specs.Parts.{withExtent, leaving}
-use Rattle.growth_rules.specs.Keeping.{NoExtent, Kept, Renewed}
+use Rattle.growth_rules.specs.Keeping.{Kept, Renewed}
 
 -- A byte lies in an init component exactly if its extent holds the byte.
 init-in : (c : Component) (b : ℕ) → initAt b c ≡ true → (c .init ≡ true) × (c .begin ≤ b) × (b < c .end)
@@ -92,8 +92,9 @@ kept-new new k = record {
 }
 
 -- A component before those that are changed. If it is not init, an extension follows afterwards exactly if one did.
-pub kept-behind : {at : ℕ} {may : Bool} {t' : List Component} {os : List Object} {new : List ℕ} (c : Component) (t : List Component)
-    → Fields (c ∷ t) → Linked false at may (c ∷ t) → 1 ≤ length t' → (c .init ≡ false → startsExtension t' ≡ startsExtension t)
+pub kept-behind : {at : ℕ} {may : Bool} {t' : List Component} {os : List Object} {new : List ℕ}
+    (c : Component) (t : List Component) → Fields (c ∷ t) → Linked false at may (c ∷ t)
+    → 1 ≤ length t' → (c .init ≡ false → startsExtension t' ≡ startsExtension t)
     → Kept (c .end) (c .end) (not (c .extension)) t t' os new → Kept at at may (c ∷ t) (c ∷ t') os new
 kept-behind {t' = t'} c t f k filled first kept = record {
   fields = (f .0, f .1, kept .fields);
@@ -121,8 +122,8 @@ no-records : {x : Component} → IsExtension x → (o : Object) → count sameOb
 no-records {x} k o = rw (k .init)
 
 -- An extension before those that are changed goes.
-pub kept-gone : {from to : ℕ} {may : Bool} {t t' : List Component} {os : List Object} {new : List ℕ} (x : Component) → IsExtension x
-    → Kept (x .end) to may t t' os new → Kept from to may (x ∷ t) t' os new
+pub kept-gone : {from to : ℕ} {may : Bool} {t t' : List Component} {os : List Object} {new : List ℕ}
+    (x : Component) → IsExtension x → Kept (x .end) to may t t' os new → Kept from to may (x ∷ t) t' os new
 kept-gone {t = t} x is kept = record {
   fields = kept .fields;
   linked = kept .linked;
@@ -137,8 +138,9 @@ kept-gone {t = t} x is kept = record {
     not-init b = bool-cases (initAt b x) (λ e. clash (init-in x b e .0) (is .init)) (λ e. e)
 
 -- A component is renewed, and those behind it are changed. If it was init, its new extent holds the old one.
-pub kept-renewed : {from to : ℕ} {may : Bool} {t' : List Component} {os : List Object} (c c' : Component) (t : List Component) → Fields (c ∷ t)
-    → Renewed c c' os → c' .begin ≡ to → (c .init ≡ true → (to ≤ c .begin) × (c .end ≤ c' .end))
+pub kept-renewed : {from to : ℕ} {may : Bool} {t' : List Component} {os : List Object}
+    (c c' : Component) (t : List Component) → Fields (c ∷ t) → Renewed c c' os → c' .begin ≡ to
+    → (c .init ≡ true → (to ≤ c .begin) × (c .end ≤ c' .end))
     → Kept (c .end) (c' .end) true t t' [] [] → Kept from to may (c ∷ t) (c' ∷ t') os []
 kept-renewed {to = to} {t' = t'} {os = os} c c' t f r at wider kept = record {
   fields = (omega (arith, f .0, r .id), isInit (r .kind), kept .fields);
@@ -168,7 +170,8 @@ kept-renewed {to = to} {t' = t'} {os = os} c c' t f r at wider kept = record {
 }
 
 -- An init component is added before those that are changed.
-pub kept-added : {from to : ℕ} {may : Bool} {t t' : List Component} {os : List Object} (c : Component) → IsInit c → recordsOf c ≡ os → 1 ≤ c .id → c .begin ≡ to
+pub kept-added : {from to : ℕ} {may : Bool} {t t' : List Component} {os : List Object}
+    (c : Component) → IsInit c → recordsOf c ≡ os → 1 ≤ c .id → c .begin ≡ to
     → Kept from (c .end) true t t' [] [] → Kept from to may t (c ∷ t') os (c .id ∷ [])
 kept-added {t' = t'} c is same id at kept = record {
   fields = (id, isInit is, kept .fields);
@@ -193,8 +196,8 @@ kept-added {t' = t'} c is same id at kept = record {
 }
 
 -- An extension whose first bytes are gone, or that goes where it is empty.
-pub kept-leaving : (from at : ℕ) (may : Bool) (x : Component) (t : List Component) → Fields (x ∷ t) → Linked false from may (x ∷ t) → IsExtension x
-    → at ≤ x .end → Kept from at true (x ∷ t) (leaving at x t) [] []
+pub kept-leaving : (from at : ℕ) (may : Bool) (x : Component) (t : List Component) → Fields (x ∷ t)
+    → Linked false from may (x ∷ t) → IsExtension x → at ≤ x .end → Kept from at true (x ∷ t) (leaving at x t) [] []
 unfolding leaving
 kept-leaving from at may x t f k is h =
     cond-elim (λ (u : List Component). Kept from at true (x ∷ t) u [] []) (eqb at (x .end))
@@ -209,7 +212,9 @@ kept-leaving from at may x t f k is h =
       fields = (f .0, isExtension kind, f .2);
       linked = (refl, (λ e. refl), follower-held (withExtent at (x .end) x) t h (λ i. plain), k .3);
       readings = λ read n b a e.
-          reading-behind read b a (withExtent at (x .end) x) t (rw (is .init)) ∙ sym (reading-behind read b a x t (rw (is .init))) ∙ e;
+          reading-behind read b a (withExtent at (x .end) x) t (rw (is .init))
+          ∙ sym (reading-behind read b a x t (rw (is .init)))
+          ∙ e;
       ends = refl;
       objects = λ o. omega arith;
       ids = λ i. omega arith;

@@ -13,3 +13,4 @@ pub mod CallCases
 pub mod ValidityLaws
 pub mod MomentLaws
 pub mod Demand3
+pub mod CallLaws

@@ -19,7 +19,7 @@ use Rattle.layout.specs.Holder.{covers, lastEnd}
 use Rattle.layout.specs.HolderLaws.{covers-last}
 use Rattle.mapping.specs.Homes.{homeIn, readingOf}
 use Rattle.growth_rules.specs.Steps.{Call}
-use Rattle.growth_rules.specs.Growing.{Outcome, growOf}
+use Rattle.growth_rules.specs.Growing.{Outcome}
 use Rattle.growth_rules.specs.Moments.{behindCall, moments}
 use Rattle.growth_rules.specs.Keeping.{NoExtent}
 use Rattle.growth_rules.specs.CallCases.{Called, refused, unchanged, grown, Grown, call-cases}
@@ -102,7 +102,8 @@ module _ (l : Layout) (ks : List Call) (v : valid l ≡ true) where
   reading-kept read n i j le h b a e = moment-follows l l ks v i j le h .readings read n b a e
 
   -- Every moment covers the bytes that the start covers.
-  pub moment-covers : (j : ℕ) → j < length (moments l ks) → (b : ℕ) → covers (view (getD (moments l ks) j l)) b ≡ covers (view l) b
+  pub moment-covers : (j : ℕ) → j < length (moments l ks) → (b : ℕ)
+      → covers (view (getD (moments l ks) j l)) b ≡ covers (view l) b
   moment-covers j h b =
       let later = getD (moments l ks) j l in
       let here = valid-facts l v .keeps in

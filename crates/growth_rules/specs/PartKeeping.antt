@@ -39,7 +39,8 @@ granting-kept c c' x t f k is begin renewed =
     let joined = k .3 .0 in
     let size = is .size .nonzero in
     let extent = is .extent in
-    kept-renewed c (withExtent (c' .begin) r c') (x ∷ t) f (renewed (omega arith)) (begin ∙ k .0) (λ i. (omega (arith, k .0), omega arith))
+    kept-renewed c (withExtent (c' .begin) r c') (x ∷ t) f (renewed (omega arith)) (begin ∙ k .0)
+    (λ i. (omega (arith, k .0), omega arith))
     (kept-leaving (c .end) r (not (c .extension)) x t (f .2) (k .3) is (omega arith))
 
 -- The component behind an extension that goes, made init, and what follows it.
@@ -57,7 +58,8 @@ following-kept {at} {may} x n t os f k is i ch = go t (f .2) (k .3)
         → Kept at at may (x ∷ n ∷ t) (withExtent (x .begin) end (madeInit os n) ∷ t') os []
     moved end t t' f h kept =
         kept-gone x is
-        (kept-renewed n (withExtent (x .begin) end (madeInit os n)) t f (bare-renewed n (x .begin) end os bare ch h) (k .0) (λ q. clash q i) kept)
+        (kept-renewed n (withExtent (x .begin) end (madeInit os n)) t f (bare-renewed n (x .begin) end os bare ch h) (k .0)
+        (λ q. clash q i) kept)
 
     below : x .begin < n .end
     below = omega (arith, is .extent, k .3 .0, kind-ordered (f .2 .1))

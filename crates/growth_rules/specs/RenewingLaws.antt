@@ -24,7 +24,8 @@ chosen-records {s} {os} c i p e few ch = rw (i, p, e, ← ch .enough) (records-p
 
 -- A component on chosen object records is init.
 chosen-init : {s : ℕ} {os : List Object} (c : Component) → c .init ≡ true → c .extension ≡ false → Striped c → c .begin < c .end
-    → c .objects ≡ packObjects os → c .«stripe_count» ≡ s → Chosen s os → c .«first_target» ≡ pos (getD os 0 noObject .target) → IsInit c
+    → c .objects ≡ packObjects os → c .«stripe_count» ≡ s → Chosen s os
+    → c .«first_target» ≡ pos (getD os 0 noObject .target) → IsInit c
 chosen-init c i x s h p e ch first =
     let same = chosen-records c i p e (omega (arith, s .few)) ch in
     record {

@@ -23,7 +23,8 @@ use Rattle.growth_rules.specs.Parts.{withExtent, madeInit, repeatOf, rea
 use Rattle.growth_rules.specs.Steps.{Call, Step, stays, lacks, changes, behind, choosing, heldStep, spillStep, lowStep}
 use Rattle.growth_rules.specs.Steps.{extensionStep, stepOn}
 use Rattle.growth_rules.specs.Keeping.{Kept, Chosen, Changed, StepKeeps}
-use Rattle.growth_rules.specs.KeepingLaws.{kept-same, kept-new, kept-behind, kept-gone, kept-renewed, kept-added, kept-leaving}
+use Rattle.growth_rules.specs.KeepingLaws.{kept-same, kept-new, kept-behind, kept-gone, kept-renewed, kept-added}
+use Rattle.growth_rules.specs.KeepingLaws.{kept-leaving}
 use Rattle.growth_rules.specs.RenewingLaws.{init-renewed, bare-renewed, repeat-init, repeat-records}
 use Rattle.growth_rules.specs.PartKeeping.{kind-bare, granting-kept, following-kept, following-some}
 
@@ -88,8 +89,8 @@ module _ (k : Call) (new : ℕ) (table : tableOk (k .table) ≡ true) (one : 1 �
       }
 
       -- Behind c, which is init and stays.
-      behind-init : (t t' : List Component) (os : List Object) → Fields (c ∷ x ∷ t) → Linked false at may (c ∷ x ∷ t) → c .init ≡ true
-          → 1 ≤ length t' → ((o : Object) → count sameObject o os ≤ 1)
+      behind-init : (t t' : List Component) (os : List Object) → Fields (c ∷ x ∷ t) → Linked false at may (c ∷ x ∷ t)
+          → c .init ≡ true → 1 ≤ length t' → ((o : Object) → count sameObject o os ≤ 1)
           → Kept (c .end) (c .end) (not (c .extension)) (x ∷ t) t' os (new ∷ []) → Changed new at may (c ∷ x ∷ t) (c ∷ t') os
       behind-init t t' os f l i filled once kept = record {
         some = omega arith;
@@ -98,8 +99,8 @@ module _ (k : Call) (new : ℕ) (table : tableOk (k .table) ≡ true) (one : 1 �
         kept = kept-behind c (x ∷ t) f l filled (λ q. clash i q) kept;
       }
 
-      spill-keeps : (n : Component) (t : List Component) → Fields (c ∷ x ∷ n ∷ t) → Linked false at may (c ∷ x ∷ n ∷ t) → c .init ≡ true
-          → StepKeeps new at may (c ∷ x ∷ n ∷ t) (spillStep k c x n t)
+      spill-keeps : (n : Component) (t : List Component) → Fields (c ∷ x ∷ n ∷ t) → Linked false at may (c ∷ x ∷ n ∷ t)
+          → c .init ≡ true → StepKeeps new at may (c ∷ x ∷ n ∷ t) (spillStep k c x n t)
       unfolding spillStep
       spill-keeps n t f l i =
           cond-elim (StepKeeps new at may (c ∷ x ∷ n ∷ t)) (n .init)
@@ -112,12 +113,13 @@ module _ (k : Call) (new : ℕ) (table : tableOk (k .table) ≡ true) (one : 1 �
           (λ e. (omega (arith, is .extent, l .3 .0, l .3 .3 .0), omega arith))
           (kept-same (n .end) (not (n .extension)) t (f .2 .2 .2) (l .3 .3 .3))))))
           (λ q. choosing-keeps (c ∷ x ∷ n ∷ t) (n .«stripe_count») (λ os. c ∷ following (x .begin) (madeInit os n) t) lacks
-          (λ os ch. behind-init (n ∷ t) (following (x .begin) (madeInit os n) t) os f l i (following-some (x .begin) (madeInit os n) t) (ch .once)
+          (λ os ch. behind-init (n ∷ t) (following (x .begin) (madeInit os n) t) os f l i
+          (following-some (x .begin) (madeInit os n) t) (ch .once)
           (kept-new new (following-kept x n t os (f .2) (l .3) is q ch)))
           tt)
 
-      repeat-keeps : (os : List Object) → Fields (c ∷ x ∷ []) → Linked false at may (c ∷ x ∷ []) → c .init ≡ true → Chosen (c .«stripe_count») os
-          → Changed new at may (c ∷ x ∷ [])
+      repeat-keeps : (os : List Object) → Fields (c ∷ x ∷ []) → Linked false at may (c ∷ x ∷ [])
+          → c .init ≡ true → Chosen (c .«stripe_count») os → Changed new at may (c ∷ x ∷ [])
           (c ∷ repeatOf new c (x .begin) (reach (x .begin) x) os ∷ leaving (reach (x .begin) x) x []) os
       repeat-keeps os f l i ch =
           let r = reach (x .begin) x in
@@ -154,12 +156,14 @@ module _ (k : Call) (new : ℕ) (table : tableOk (k .table) ≡ true) (one : 1 �
             first = refl;
             once = ch .once;
             kept = kept-new new
-                (granting-kept c (madeInit os c) x t f l is refl (λ h. bare-renewed c (c .begin) (reach (x .begin) x) os bare ch h));
+                (granting-kept c (madeInit os c) x t f l is refl
+                (λ h. bare-renewed c (c .begin) (reach (x .begin) x) os bare ch h));
           })
           tt)
 
   -- A step behind a component.
-  behind-keeps : {at : ℕ} {may : Bool} (c x : Component) (t : List Component) → Fields (c ∷ x ∷ t) → Linked false at may (c ∷ x ∷ t) → (s : Step)
+  behind-keeps : {at : ℕ} {may : Bool} (c x : Component) (t : List Component) → Fields (c ∷ x ∷ t)
+      → Linked false at may (c ∷ x ∷ t) → (s : Step)
       → StepKeeps new (c .end) (not (c .extension)) (x ∷ t) s → StepKeeps new at may (c ∷ x ∷ t) (behind c s)
   behind-keeps c x t f l stays kept = tt
   behind-keeps c x t f l lacks kept = tt

@@ -19,7 +19,8 @@ behindAll [] s = s
 behindAll (c ∷ cs) s = behind c (behindAll cs s)
 
 -- What a step changes, it changes behind them; it stays or lacks targets as without them.
-pub behind-changes : (before cs : List Component) (os : List Object) → behindAll before (changes cs os) ≡ changes (before ++ cs) os
+pub behind-changes : (before cs : List Component) (os : List Object)
+    → behindAll before (changes cs os) ≡ changes (before ++ cs) os
 behind-changes [] cs os = refl
 behind-changes (c ∷ before) cs os = ap (behind c) (behind-changes before cs os)
 
@@ -32,8 +33,8 @@ behind-lacks [] = refl
 behind-lacks (c ∷ before) = ap (behind c) (behind-lacks before)
 
 -- An extension never stands first in a list that keeps the neighbour rule: where one holds a byte, a component stands before it.
-pub extension-behind : (more : Bool) (at : ℕ) (cs : List Component) (d : Component) (i : ℕ) → Linked more at false cs → i < length cs
-    → getD cs i d .extension ≡ true → 0 < i
+pub extension-behind : (more : Bool) (at : ℕ) (cs : List Component) (d : Component) (i : ℕ) → Linked more at false cs
+    → i < length cs → getD cs i d .extension ≡ true → 0 < i
 extension-behind more at [] d i k h e = absurd (omega arith)
 extension-behind more at (c ∷ cs) d zero k h e = clash (k .1 e) refl
 extension-behind more at (c ∷ cs) d (suc i) k h e = omega arith

@@ -1,5 +1,5 @@
 -- A call of growth on a valid layout gives a valid layout back.
-use Prim.Native.Nat.{ℕ, _+_, _≤_}
+use Prim.Native.Nat.{_+_, _≤_}
 use mathlib.Core.Path.{_≡_, ap}
 use mathlib.Core.List.{List, [], _∷_}
 use mathlib.Core.Bool.{true, false}
@@ -16,12 +16,12 @@ use Rattle.layout.specs.Records.{idsOf, recordsIn, view, packed}
 use Rattle.layout.specs.RecordLaws.{view-pack}
 use Rattle.layout.specs.Distinct.{sameObject}
 use Rattle.layout.specs.Rules.{valid}
-use Rattle.layout.specs.Facts.{Keeps, Valid}
+use Rattle.layout.specs.Facts.{Keeps}
 use Rattle.layout.specs.FactLaws.{same-object, valid-facts, facts-valid}
 use Rattle.free_table.specs.Table.{tableOk}
 use Rattle.growth_rules.specs.Parts.{freshId}
 use Rattle.growth_rules.specs.PartLaws.{fresh-id}
-use Rattle.growth_rules.specs.Steps.{Call, Step, changes}
+use Rattle.growth_rules.specs.Steps.{Call, changes}
 use Rattle.growth_rules.specs.Growing.{Outcome, meets, stepOf, growOf}
 use Rattle.growth_rules.specs.Keeping.{Changed, StepKeeps}
 use Rattle.growth_rules.specs.StepKeeping.{step-keeps}
@@ -70,9 +70,9 @@ module _ (l : Layout) (k : Call) (v : valid l ≡ true) where
       }
 
 -- A layout that a step changes is valid again, where 17 and 18 do not apply.
-pub changed-valid : (l : Layout) (k : Call) → valid l ≡ true → tableOk (k .table) ≡ true → (cs : List Component) (os : List Object)
-    → stepOf l k ≡ changes cs os → length cs ≤ 16 → meets os (recordsIn (view l)) ≡ false
-    → valid (packed (l .generation + 1) cs) ≡ true
+pub changed-valid : (l : Layout) (k : Call) → valid l ≡ true → tableOk (k .table) ≡ true
+    → (cs : List Component) (os : List Object) → stepOf l k ≡ changes cs os → length cs ≤ 16
+    → meets os (recordsIn (view l)) ≡ false → valid (packed (l .generation + 1) cs) ≡ true
 changed-valid l k v t cs os e few apart =
     let c = step-changed l k v t cs os e in
     let whole = view-pack (l .generation + 1) cs few in

@@ -19,7 +19,7 @@ use Rattle.layout.specs.FactLaws.{kind-ordered, kind-init, kind-extension}
 use Rattle.free_table.specs.Table.{usable, tableOk, anyLow}
 use Rattle.free_table.specs.Choosing.{chosen}
 use Rattle.free_table.specs.ChoosingLaws.{table-facts, chosen-targets, chosen-once}
-use Rattle.growth_rules.specs.Parts.{withExtent, madeInit, repeatOf, reach, leaving, granting, following}
+use Rattle.growth_rules.specs.Parts.{madeInit, repeatOf, reach, leaving, granting}
 use Rattle.growth_rules.specs.Steps.{Call, Step, stays, lacks, changes, behind, choosing, heldStep, spillStep, lowStep}
 use Rattle.growth_rules.specs.Steps.{extensionStep, stepOn}
 use Rattle.growth_rules.specs.Keeping.{Kept, Chosen, Changed, StepKeeps}
@@ -63,7 +63,7 @@ module _ (k : Call) (new : ℕ) (table : tableOk (k .table) ≡ true) (one : 1 �
     held-keeps c t f l h =
         cond-elim (StepKeeps new at may (c ∷ t)) (c .init || c .extension) (λ e. tt)
         (λ e. let p = both-false (c .init) (c .extension) e in
-        choosing-keeps (c ∷ t) (c .«stripe_count») (λ os. madeInit os c ∷ t) lacks
+        choosing-keeps (c ∷ t) (c .«stripe_count») _ lacks
         (λ os ch. record {
           some = omega arith;
           first = refl;
@@ -103,18 +103,19 @@ module _ (k : Call) (new : ℕ) (table : tableOk (k .table) ≡ true) (one : 1 �
           → c .init ≡ true → StepKeeps new at may (c ∷ x ∷ n ∷ t) (spillStep k c x n t)
       unfolding spillStep
       spill-keeps n t f l i =
+          let extent = is .extent in
+          let joined = l .3 .0 in
+          let ended = l .3 .3 .0 in
+          let ordered = kind-ordered (f .2 .2 .1) in
           cond-elim (StepKeeps new at may (c ∷ x ∷ n ∷ t)) (n .init)
-          (λ q. let longer : x .begin < n .end = omega (arith, is .extent, l .3 .3 .0, kind-ordered (f .2 .2 .1)) in
-          let renewed = init-renewed n (x .begin) (n .end) (kind-init (f .2 .2 .1) q) longer in
-          behind-init (n ∷ t) (withExtent (x .begin) (n .end) n ∷ t) [] f l i (omega arith) (λ o. omega arith)
+          (λ q. let kind = kind-init (f .2 .2 .1) q in
+          behind-init (n ∷ t) _ [] f l i (omega arith) (λ o. omega arith)
           (kept-new new
           (kept-gone x is
-          (kept-renewed n (withExtent (x .begin) (n .end) n) t (f .2 .2) renewed (l .3 .0)
-          (λ e. (omega (arith, is .extent, l .3 .0, l .3 .3 .0), omega arith))
+          (kept-renewed n _ t (f .2 .2) (init-renewed n _ _ kind (omega arith)) (omega arith) (λ e. (omega arith, omega arith))
           (kept-same (n .end) (not (n .extension)) t (f .2 .2 .2) (l .3 .3 .3))))))
-          (λ q. choosing-keeps (c ∷ x ∷ n ∷ t) (n .«stripe_count») (λ os. c ∷ following (x .begin) (madeInit os n) t) lacks
-          (λ os ch. behind-init (n ∷ t) (following (x .begin) (madeInit os n) t) os f l i
-          (following-some (x .begin) (madeInit os n) t) (ch .once)
+          (λ q. choosing-keeps (c ∷ x ∷ n ∷ t) (n .«stripe_count») _ lacks
+          (λ os ch. behind-init (n ∷ t) _ os f l i (following-some (x .begin) (madeInit os n) t) (ch .once)
           (kept-new new (following-kept x n t os (f .2) (l .3) is q ch)))
           tt)
 
@@ -135,10 +136,7 @@ module _ (k : Call) (new : ℕ) (table : tableOk (k .table) ≡ true) (one : 1 �
           → StepKeeps new at may (c ∷ x ∷ t) (lowStep k new c x t)
       unfolding lowStep
       low-keeps [] f l i =
-          choosing-keeps (c ∷ x ∷ []) (c .«stripe_count»)
-          (λ os. c ∷ repeatOf new c (x .begin) (reach (x .begin) x) os ∷ leaving (reach (x .begin) x) x [])
-          (changes (granting c x []) [])
-          (λ os ch. repeat-keeps os f l i ch)
+          choosing-keeps (c ∷ x ∷ []) (c .«stripe_count») _ (changes (granting c x []) []) (λ os ch. repeat-keeps os f l i ch)
           (granting-keeps [] f l i)
       low-keeps (n ∷ t) f l i = spill-keeps n t f l i
 
@@ -149,7 +147,7 @@ module _ (k : Call) (new : ℕ) (table : tableOk (k .table) ≡ true) (one : 1 �
           cond-elim (StepKeeps new at may (c ∷ x ∷ t)) (c .init)
           (λ i. cond-elim (StepKeeps new at may (c ∷ x ∷ t)) (anyLow (k .mark) (k .table) (recordsOf c)) (λ e. low-keeps t f l i)
           (λ e. granting-keeps t f l i))
-          (λ i. choosing-keeps (c ∷ x ∷ t) (c .«stripe_count») (λ os. granting (madeInit os c) x t) lacks
+          (λ i. choosing-keeps (c ∷ x ∷ t) (c .«stripe_count») _ lacks
           (λ os ch. let bare = kind-bare (f .1) i (not-true (c .extension) (l .3 .1 (is .extension))) in
           record {
             some = omega arith;

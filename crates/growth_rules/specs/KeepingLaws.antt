@@ -216,7 +216,13 @@ kept-leaving from at may x t f k is h =
           ∙ sym (reading-behind read b a x t (rw (is .init)))
           ∙ e;
       ends = refl;
-      objects = λ o. omega arith;
+      objects = λ o. omega (
+        arith,
+        no-records is o,
+        no-records kind o,
+        count-append sameObject o (recordsOf x) (recordsIn t),
+        count-append sameObject o (recordsOf (withExtent at (x .end) x)) (recordsIn t),
+      );
       ids = λ i. omega arith;
     }
       where

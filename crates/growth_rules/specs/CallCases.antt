@@ -40,6 +40,7 @@ pub data Called (l : Layout) (k : Call) : Outcome → Type 0 where
       → Called l k (accepting l k true (packed (l .generation + 1) cs) (raisedFirst (usable (k .mark)) (length os) (k .table)))
 
 module _ (l : Layout) (k : Call) where
+  -- The cases of a step, on a valid layout with a table that is not bad.
   step-cases : valid l ≡ true → tableOk (k .table) ≡ true → (s : Step) → stepOf l k ≡ s → Called l k (settling l k s)
   unfolding settling
   step-cases v t stays e = unchanged

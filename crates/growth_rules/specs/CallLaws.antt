@@ -40,6 +40,7 @@ module _ (l : Layout) (k : Call) where
   abbrev pub Leaves : Outcome → Type 0
   Leaves o = (o .layout ≡ l) × (o .table ≡ k .table)
 
+  -- The laws are shown of each of the three cases that a call comes to, and then of the call.
   refused-leaves : {o : Outcome} → Called l k o → (n : ℕ) → o .answer ≡ refuses n → Leaves o
   refused-leaves (refused m e) n q = (refl, refl)
   refused-leaves unchanged n q = (refl, refl)
@@ -128,31 +129,37 @@ module _ (k : Call) where
   Choice lacks = Unit {0}
   Choice (changes cs os) = os ≡ chosen (usable (k .mark)) (length os) (k .table)
 
+  -- Where nothing is chosen.
   no-choice : [] ≡ chosen (usable (k .mark)) 0 (k .table)
   no-choice = sym (chosen-none (usable (k .mark)) (k .table))
 
+  -- A step behind a component.
   behind-choice : (c : Component) (s : Step) → Choice s → Choice (behind c s)
   behind-choice c stays h = tt
   behind-choice c lacks h = tt
   behind-choice c (changes cs os) h = h
 
+  -- Where object records are chosen, or something stands in for it.
   choosing-choice : (s : ℕ) (made : List Object → List Component) (other : Step) → Choice other → Choice (choosing k s made other)
   unfolding choosing
   choosing-choice s made other h =
       cond-elim Choice (eqb (length (chosen (usable (k .mark)) s (k .table))) s)
       (λ e. sym (chosen-same (usable (k .mark)) s (k .table))) (λ e. h)
 
+  -- Where a component that is no extension holds the offset.
   held-choice : (c : Component) (cs : List Component) → Choice (heldStep k c cs)
   unfolding heldStep
   held-choice c cs = cond-elim Choice (c .init || c .extension) (λ e. tt) (λ e. choosing-choice (c .«stripe_count») _ lacks tt)
 
   module _ (new : ℕ) where
+    -- Where the component before the extension that holds it has a low target,
     low-choice : (c x : Component) (cs : List Component) → Choice (lowStep k new c x cs)
     unfolding lowStep spillStep
     low-choice c x [] = choosing-choice (c .«stripe_count») _ _ no-choice
     low-choice c x (n ∷ cs) =
         cond-elim Choice (n .init) (λ e. no-choice) (λ e. choosing-choice (n .«stripe_count») _ lacks tt)
 
+    -- where an extension holds the offset,
     extension-choice : (c x : Component) (cs : List Component) → Choice (extensionStep k new c x cs)
     unfolding extensionStep
     extension-choice c x cs =
@@ -160,6 +167,7 @@ module _ (k : Call) where
         (λ i. cond-elim Choice (anyLow (k .mark) (k .table) (recordsOf c)) (λ e. low-choice c x cs) (λ e. no-choice))
         (λ i. choosing-choice (c .«stripe_count») _ lacks tt)
 
+    -- and of the whole step.
     step-choice : (cs : List Component) → Choice (stepOn k new cs)
     unfolding stepOn
     step-choice [] = tt

@@ -21,7 +21,7 @@ use Rattle.mapping.specs.Homes.{initAt, readingOf}
 use Rattle.growth_rules.specs.Parts.{withExtent, leaving}
 use Rattle.growth_rules.specs.Keeping.{Kept, Renewed}
 
--- A byte lies in an init component exactly if its extent holds the byte.
+-- A byte lies in an init component exactly if the component is init and its extent holds the byte.
 init-in : (c : Component) (b : ℕ) → initAt b c ≡ true → (c .init ≡ true) × (c .begin ≤ b) × (b < c .end)
 init-in c b e =
     let p = both-true (c .init) (leb (c .begin) b && ltb b (c .end)) e in
@@ -31,6 +31,7 @@ init-in c b e =
 in-init : (c : Component) (b : ℕ) → c .init ≡ true → c .begin ≤ b → b < c .end → initAt b c ≡ true
 in-init c b i h k = true-both i (true-both (le-leb (c .begin) b h) (lt-ltb b (c .end) k))
 
+-- It does not lie in one that ends at or before it.
 past-init : (c : Component) (b : ℕ) → c .end ≤ b → initAt b c ≡ false
 past-init c b h = bool-cases (initAt b c) (λ e. absurd (omega (arith, init-in c b e))) (λ e. e)
 
@@ -134,6 +135,7 @@ kept-gone {t = t} x is kept = record {
   ids = λ i. omega (arith, kept .ids i);
 }
   where
+    -- No byte lies in an init component by an extension.
     not-init : (b : ℕ) → initAt b x ≡ false
     not-init b = bool-cases (initAt b x) (λ e. clash (init-in x b e .0) (is .init)) (λ e. e)
 
@@ -204,9 +206,11 @@ kept-leaving from at may x t f k is h =
     (λ e. kept-gone x is (rw (eqb-true at (x .end) e) (kept-same (x .end) (not (x .extension)) t (f .2) (k .3))))
     (λ e. left (omega (arith, eqb-false at (x .end) e)))
   where
+    -- No extension follows an extension.
     plain : startsExtension t ≡ false
     plain = sym (follower-empty x t (k .2) (is .init)) ∙ ne-eqb (x .begin) (x .end) (λ e. omega (arith, is .extent))
 
+    -- Something is left of it.
     left : at < x .end → Kept from at true (x ∷ t) (withExtent at (x .end) x ∷ t) [] []
     left h = record {
       fields = (f .0, isExtension kind, f .2);

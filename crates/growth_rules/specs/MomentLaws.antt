@@ -18,6 +18,8 @@ use Rattle.layout.specs.FactLaws.{valid-facts}
 use Rattle.layout.specs.Holder.{covers, lastEnd}
 use Rattle.layout.specs.HolderLaws.{covers-last}
 use Rattle.mapping.specs.Homes.{homeIn, readingOf}
+use Rattle.mapping.specs.declared.Piece.{Piece}
+use Rattle.mapping.specs.Cutting.{pieceFrom}
 use Rattle.growth_rules.specs.Steps.{Call}
 use Rattle.growth_rules.specs.Growing.{Outcome}
 use Rattle.growth_rules.specs.Moments.{behindCall, moments}
@@ -30,7 +32,15 @@ pub home-no-extent : NoExtent homeIn
 unfolding homeIn
 home-no-extent begin end c b = refl
 
--- The layout l' comes of l by calls.
+-- The piece of a single byte, which tells the component's id, the stripe and the object byte.
+abbrev pub bytePiece : Component → ℕ → Piece
+bytePiece c b = pieceFrom (c .id) (c .«stripe_size») (c .«stripe_count») b (b + 1)
+
+-- It does not look at the component's extent either: by `reading-kept`, growth keeps it.
+pub piece-no-extent : NoExtent bytePiece
+piece-no-extent begin end c b = refl
+
+-- The layout l' comes of l by calls: it is valid, every reading that does not look at the extent stays, and the last end stays.
 record Follows (l l' : Layout) : Type 1 where
   sound : valid l' ≡ true
   readings : {A : Type 0} (read : Component → ℕ → A) → NoExtent read → (b : ℕ) (a : A) → readingOf read b (view l) ≡ some a
@@ -62,12 +72,13 @@ module _ (l : Layout) (k : Call) (v : valid l ≡ true) where
         ends = ap lastEnd whole ∙ kept .ends;
       }
 
+  -- The layout of each of the cases that a call comes to,
   outcome-follows : {o : Outcome} → Called l k o → Follows l (o .layout)
   outcome-follows (refused n e) = follows-same l v
   outcome-follows unchanged = follows-same l v
   outcome-follows (grown cs os g) = grown-follows cs os g
 
-  -- The layout behind a call comes of the one that it was given.
+  -- and so the layout behind a call, comes of the one that it was given.
   call-follows : Follows l (behindCall l k)
   call-follows = outcome-follows (call-cases l k)
 

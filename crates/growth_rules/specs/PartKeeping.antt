@@ -50,6 +50,7 @@ pub following-kept : {at : ℕ} {may : Bool} (x n : Component) (t : List Compone
 unfolding following
 following-kept {at} {may} x n t os f k is i ch = go t (f .2) (k .3)
   where
+    -- The component is bare.
     bare : IsBare n
     bare = kind-bare (f .2 .1) i (behind-extension x n (k .3 .1) (is .extension))
 
@@ -61,13 +62,16 @@ following-kept {at} {may} x n t os f k is i ch = go t (f .2) (k .3)
         (kept-renewed n (withExtent (x .begin) end (madeInit os n)) t f (bare-renewed n (x .begin) end os bare ch h) (k .0)
         (λ q. clash q i) kept)
 
+    -- The component ends behind the extension's begin.
     below : x .begin < n .end
     below = omega (arith, is .extent, k .3 .0, kind-ordered (f .2 .1))
 
+    -- Where no extension follows it, it ends where it did.
     plain : (t : List Component) → Fields (n ∷ t) → Linked false (x .end) (not (x .extension)) (n ∷ t)
         → Kept at at may (x ∷ n ∷ t) (withExtent (x .begin) (n .end) (madeInit os n) ∷ t) os []
     plain t f k = moved (n .end) t t f below (kept-same (n .end) (not (n .extension)) t (f .2) (k .3))
 
+    -- By what follows it.
     go : (t : List Component) → Fields (n ∷ t) → Linked false (x .end) (not (x .extension)) (n ∷ t)
         → Kept at at may (x ∷ n ∷ t) (following (x .begin) (madeInit os n) t) os []
     go [] f k = plain [] f k

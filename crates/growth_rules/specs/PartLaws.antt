@@ -23,7 +23,7 @@ abbrev above : ℕ → List ℕ → ℕ
 above k [] = 0
 above k (a ∷ ids) = bit (leb k a) + above k ids
 
--- They are those that are k + 1 or more, and those that are k.
+-- They are those that are k + 1 or more, and those that are k: of one number, and of a list.
 above-one : (k a : ℕ) → bit (leb k a) ≡ bit (leb (suc k) a) + bit (eqb k a)
 above-one k a =
     bool-cases (leb k a)
@@ -36,21 +36,23 @@ above-next : (k : ℕ) (ids : List ℕ) → above k ids ≡ above (suc k) ids + 
 above-next k [] = refl
 above-next k (a ∷ ids) = omega (arith, above-one k a, above-next k ids)
 
--- They are at most as many as the list has numbers.
+-- A test counts at most 1.
 bit-le : (b : Bool) → bit b ≤ 1
 bit-le true = omega arith
 bit-le false = omega arith
 
+-- They are at most as many as the list has numbers.
 above-few : (k : ℕ) (ids : List ℕ) → above k ids ≤ length ids
 above-few k [] = omega arith
 above-few k (a ∷ ids) = omega (arith, bit-le (leb k a), above-few k ids)
 
--- The number that `idFrom` gives is k or more, is none of the ids, and each number from k on below it is one of them.
+-- The number r is the smallest from k on that is none of the ids: it is none of them, and each number from k on below it is one.
 pub record FirstFree (k : ℕ) (ids : List ℕ) (r : ℕ) : Type 0 where
   pub from : k ≤ r
   pub unused : count eqb r ids ≡ 0
   pub smallest : (m : ℕ) → k ≤ m → m < r → elem eqb m ids ≡ true
 
+-- Such a number is found where at most n of the ids are k or more.
 first-free : (n k : ℕ) (ids : List ℕ) → above k ids ≤ n → FirstFree k ids (idFrom n k ids)
 first-free zero k ids h =
     record { from = omega arith; unused = omega (arith, above-next k ids); smallest = λ m p q. absurd (omega arith) }

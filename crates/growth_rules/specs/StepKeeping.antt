@@ -57,6 +57,7 @@ module _ (k : Call) (new : ℕ) (table : tableOk (k .table) ≡ true) (one : 1 �
         cond-elim (StepKeeps new at may t) (eqb (length os) s) (λ e. keeps os (chosen-facts s (eqb-true (length os) s e)))
         (λ e. otherwise)
 
+    -- The component c holds the offset.
     held-keeps : (c : Component) (t : List Component) → Fields (c ∷ t) → Linked false at may (c ∷ t) → c .begin < c .end
         → StepKeeps new at may (c ∷ t) (heldStep k c t)
     unfolding heldStep
@@ -99,6 +100,7 @@ module _ (k : Call) (new : ℕ) (table : tableOk (k .table) ≡ true) (one : 1 �
         kept = kept-behind c (x ∷ t) f l filled (λ q. clash i q) kept;
       }
 
+      -- Spill-over, where c has a low target and n stands behind x.
       spill-keeps : (n : Component) (t : List Component) → Fields (c ∷ x ∷ n ∷ t) → Linked false at may (c ∷ x ∷ n ∷ t)
           → c .init ≡ true → StepKeeps new at may (c ∷ x ∷ n ∷ t) (spillStep k c x n t)
       unfolding spillStep
@@ -119,6 +121,7 @@ module _ (k : Call) (new : ℕ) (table : tableOk (k .table) ≡ true) (one : 1 �
           (kept-new new (following-kept x n t os (f .2) (l .3) is q ch)))
           tt)
 
+      -- Repeat, where x is last.
       repeat-keeps : (os : List Object) → Fields (c ∷ x ∷ []) → Linked false at may (c ∷ x ∷ [])
           → c .init ≡ true → Chosen (c .«stripe_count») os → Changed new at may (c ∷ x ∷ [])
           (c ∷ repeatOf new c (x .begin) (reach (x .begin) x) os ∷ leaving (reach (x .begin) x) x []) os
@@ -132,6 +135,7 @@ module _ (k : Call) (new : ℕ) (table : tableOk (k .table) ≡ true) (one : 1 �
           (repeat-records new c (x .begin) r os kind ch) one (l .3 .0)
           (kept-leaving (c .end) r (not (c .extension)) x [] (f .2) (l .3) is (omega arith)))
 
+      -- The component c has a low target.
       low-keeps : (t : List Component) → Fields (c ∷ x ∷ t) → Linked false at may (c ∷ x ∷ t) → c .init ≡ true
           → StepKeeps new at may (c ∷ x ∷ t) (lowStep k new c x t)
       unfolding lowStep
@@ -140,6 +144,7 @@ module _ (k : Call) (new : ℕ) (table : tableOk (k .table) ≡ true) (one : 1 �
           (granting-keeps [] f l i)
       low-keeps (n ∷ t) f l i = spill-keeps n t f l i
 
+      -- The extension x holds the offset.
       extension-keeps : (t : List Component) → Fields (c ∷ x ∷ t) → Linked false at may (c ∷ x ∷ t)
           → StepKeeps new at may (c ∷ x ∷ t) (extensionStep k new c x t)
       unfolding extensionStep granting

@@ -1,16 +1,19 @@
 -- The step of a call by the position of the component that holds the offset. What is said to stand past the end of a list, d,
 -- does not matter.
 use Prim.Native.Nat.{ℕ, zero, suc, _<_}
-use mathlib.Core.Path.{_≡_, refl, ap, _∙_}
+use mathlib.Core.Path.{_≡_, refl, sym, ap, _∙_}
 use mathlib.Core.List.{List, [], _∷_, _++_}
 use mathlib.Core.Bool.{Bool, true, false, _&&_}
 use native.Mathlib.Omega.{arith}
+use lib.Dec.{ltb, leb}
 use lib.ListN.{length, getD, take, drop}
+use borrow.Author.Tests.{ltb-true, ltb-false, lt-leb, le-leb}
 use Rattle.lists.specs.Bools.{bool-cases, clash, true-both}
 use Rattle.layout.specs.declared.Object.{Object}
 use Rattle.layout.specs.declared.Component.{Component}
-use Rattle.layout.specs.Holder.{holds, holderOf}
-use Rattle.layout.specs.Facts.{Linked}
+use Rattle.layout.specs.Holder.{holds, holderOf, lastEnd}
+use Rattle.layout.specs.Facts.{Fields, Linked}
+use Rattle.layout.specs.HolderLaws.{covers-holder, covers-last}
 use Rattle.growth_rules.specs.Steps.{Call, Step, stays, lacks, changes, behind, heldStep, extensionStep, stepOn}
 
 -- A step with components before those that it is made on.
@@ -38,6 +41,17 @@ pub extension-behind : (more : Bool) (at : ℕ) (cs : List Component) (d : Compo
 extension-behind more at [] d i k h e = absurd (omega arith)
 extension-behind more at (c ∷ cs) d zero k h e = clash (k .1 e) refl
 extension-behind more at (c ∷ cs) d (suc i) k h e = omega arith
+
+-- In a list that keeps the rules of fields and neighbours, 10 applies to a byte exactly if no component holds it.
+pub past-holder : (more : Bool) (cs : List Component) → Linked more 0 false cs → Fields cs → (b : ℕ)
+    → leb (lastEnd cs) b ≡ leb (length cs) (holderOf b cs)
+past-holder more cs l f b =
+    let held : ltb (holderOf b cs) (length cs) ≡ ltb b (lastEnd cs) = sym (covers-holder b cs) ∙ covers-last more cs l f b in
+    bool-cases (ltb b (lastEnd cs))
+    (λ e. lt-leb (lastEnd cs) b (ltb-true b (lastEnd cs) e)
+    ∙ sym (lt-leb (length cs) (holderOf b cs) (ltb-true (holderOf b cs) (length cs) (held ∙ e))))
+    (λ e. le-leb (lastEnd cs) b (ltb-false b (lastEnd cs) e)
+    ∙ sym (le-leb (length cs) (holderOf b cs) (ltb-false (holderOf b cs) (length cs) (held ∙ e))))
 
 -- A conjunction fails if one of its tests does.
 left-fails : (a b : Bool) → a ≡ false → (a && b) ≡ false

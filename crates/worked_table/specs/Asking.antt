@@ -1,7 +1,8 @@
--- How the rows of a table of examples are asked and answered: by the definitions of the calls, of whole layouts, so that refusal 1
--- is asked too. What stands in quotes is document 01's.
+-- How the rows of a table of examples are asked and answered: by the definitions of the calls, of whole layouts, so that their
+-- validity is asked too. What stands in quotes is document 01's.
 use Prim.Native.Nat.{ℕ}
 use mathlib.Core.List.{List, [], _∷_}
+use mathlib.Core.Bool.{Bool, true, false}
 use mathlib.Core.Option.{Option, Option·getD}
 use lib.ListN.{length, replicate}
 use Rattle.stripe.specs.Stripe.{unitOf, stripeOf, objectByte, fileByte}
@@ -14,7 +15,7 @@ use Rattle.layout.specs.Neighbours.{neighboursHold}
 use Rattle.layout.specs.Distinct.{sameObject, distinctHold}
 use Rattle.layout.specs.Rules.{ruleBroken, valid}
 use Rattle.layout.specs.Samples.{mega, initOf, bareOf, extensionOf, layoutA, layoutB}
-use Rattle.mapping.specs.Answers.{Answer, checked}
+use Rattle.mapping.specs.Answers.{Answer, gives, refuses, checked}
 use Rattle.mapping.specs.Homes.{Home, inObject, homeIn, homeOf, hasHome}
 use Rattle.mapping.specs.Lookup.{lookupRefusal, lookupOf}
 use Rattle.mapping.specs.Back.{fileByteIn, hiddenRefusal, backRefusal, byteOf, backOf}
@@ -56,7 +57,7 @@ pub data Reply : Type 0 where
   grown : Outcome → Reply
 
 -- The home that the paper tells by component id, stripe and object byte: the object is that of the stripe's object record in the
--- component with that id.
+-- component with that id. (Where there is no such record it is the blank object, which stands in no layout of the examples.)
 abbrev pub homeBy : List Component → ℕ → ℕ → ℕ → Home
 homeBy cs id stripe byte = inObject (Option·getD (stripeObject cs id stripe) noObject) byte
 
@@ -81,13 +82,13 @@ layoutBehind l (cut offset bytes) = l
 layoutBehind l (grow k) = behindCall l k
 
 -- The answers to rows, asked one after another, where `l` is the layout behind the row before them. Each example is computed by
--- this definition, so its second line names all that is computed.
+-- this definition, so its second line names all that is to be computed.
 unfoldable pub repliesFrom : Layout → List Row → List Reply
-unfolding lookupOf lookupRefusal homeOf homeIn hasHome backOf backRefusal byteOf hiddenRefusal fileByteIn cutOf refusalBy tooMany
-    roomAfter unitEnd unitCount unitOf stripeOf objectByte fileByte growOf growIn settling stepOn extensionStep lowStep spillStep
-    heldStep choosing following granting leaving freshId chosen usable freeBelow tableOk valid ruleBroken fieldsOk kindOk extensionOk
-    stripedOk nonzeroMultiple firstTargetOk isTarget isMinusOne neighboursHold distinctHold sameObject packObjects packComponents
-    initOf bareOf extensionOf layoutA layoutB
+unfolding lookupOf lookupRefusal homeOf homeIn hasHome backOf backRefusal byteOf hiddenRefusal fileByteIn cutOf
+    refusalBy tooMany roomAfter unitEnd unitCount unitOf stripeOf objectByte fileByte growOf growIn settling stepOn
+    extensionStep lowStep spillStep heldStep choosing following granting leaving freshId chosen usable freeBelow tableOk
+    valid ruleBroken fieldsOk kindOk extensionOk stripedOk nonzeroMultiple firstTargetOk isTarget isMinusOne
+    neighboursHold distinctHold sameObject packObjects packComponents initOf bareOf extensionOf layoutA layoutB
 repliesFrom l [] = []
 repliesFrom l (of m a ∷ rows) = replyOf m a ∷ repliesFrom (layoutBehind m a) rows
 repliesFrom l (next a ∷ rows) = replyOf l a ∷ repliesFrom (layoutBehind l a) rows
@@ -95,6 +96,34 @@ repliesFrom l (next a ∷ rows) = replyOf l a ∷ repliesFrom (layoutBehind l a)
 -- The answers to the rows of a table, of which the first names its layout.
 abbrev pub replies : List Row → List Reply
 replies rows = repliesFrom (packed 0 []) rows
+
+-- A call of growth is accepted: does the offset now have a home, did the layout change, and the generation, the components and
+-- the table afterwards.
+abbrev pub accepts : Bool → Bool → ℕ → List Component → List TargetRecord → Reply
+accepts home changed generation cs table =
+    grown
+    (record {
+      answer = gives (record { home = home; changed = changed });
+      layout = packed generation cs;
+      table = table;
+    })
+
+-- It is accepted and changes the layout, and the offset now has a home.
+abbrev pub growsTo : ℕ → List Component → List TargetRecord → Reply
+growsTo generation cs table = accepts true true generation cs table
+
+-- It is accepted and changes the layout, but "one grant may not reach" the offset.
+abbrev pub growsTowards : ℕ → List Component → List TargetRecord → Reply
+growsTowards generation cs table = accepts false true generation cs table
+
+-- "no change, accepted."
+abbrev pub staysAt : ℕ → List Component → List TargetRecord → Reply
+staysAt generation cs table = accepts true false generation cs table
+
+-- It is refused by a number: the layout and the table stay as they are.
+abbrev pub refusedBy : ℕ → ℕ → List Component → List TargetRecord → Reply
+refusedBy number generation cs table =
+    grown (record { answer = refuses number; layout = packed generation cs; table = table })
 
 -- The low mark of the examples.
 abbrev pub mark : ℕ

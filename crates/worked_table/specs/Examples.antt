@@ -1,12 +1,10 @@
--- Document 01's "Table of proved examples", rows a to m, under one statement. What stands in quotes is the paper's. Where it leaves
--- an object open, one is chosen: in layout A component 1 has the object (target 0, number 10) and component 2 has (1, 11), (2, 12)
--- and (3, 13), one for each stripe; in layout B component 1 has (0, 10).
+-- Document 01's "Table of proved examples", rows a to m, under one statement. What stands in quotes is the paper's. Where it
+-- leaves an object open, one is chosen: in layout A component 1 has the object (target 0, number 10) and component 2 has (1, 11),
+-- (2, 12) and (3, 13), one for each stripe; in layout B component 1 has (0, 10).
 use Prim.Native.Nat.{ℕ}
 use mathlib.Core.Path.{_≡_, refl}
 use mathlib.Core.List.{List, [], _∷_}
-use mathlib.Core.Bool.{true}
 use mathlib.Core.Option.{some}
-use Rattle.layout.specs.declared.Component.{Component}
 use Rattle.layout.specs.declared.Layout.{Layout}
 use Rattle.layout.specs.Records.{packed}
 use Rattle.layout.specs.Rows.{objectOf}
@@ -14,9 +12,8 @@ use Rattle.layout.specs.Samples.{eof, mega, initOf, bareOf, extensionOf, layout
 use Rattle.mapping.specs.Answers.{gives, refuses}
 use Rattle.mapping.specs.Cutting.{allNumbers}
 use Rattle.mapping.specs.Samples.{piece}
-use Rattle.free_table.specs.declared.TargetRecord.{TargetRecord}
-use Rattle.worked_table.specs.Asking.{lookup, back, cut, Row, of, next, Reply, lookedUp, foundBack, cutInto, grown}
-use Rattle.worked_table.specs.Asking.{homeBy, repliesFrom, replies, usableAt, lowAt, growAt}
+use Rattle.worked_table.specs.Asking.{lookup, back, cut, Row, of, next, Reply, lookedUp, foundBack, cutInto}
+use Rattle.worked_table.specs.Asking.{homeBy, repliesFrom, replies, growsTo, usableAt, lowAt, growAt}
 
 -- Layout A; the paper leaves its generation open.
 abbrev pub A : Layout
@@ -60,17 +57,6 @@ questions =
 -- A lookup in layout A gives the home that the paper tells by component id, stripe and byte.
 abbrev pub homeAt : ℕ → ℕ → ℕ → Reply
 homeAt id stripe byte = lookedUp (gives (some (homeBy layoutA id stripe byte)))
-
--- A call of growth is accepted and changes the layout, and the offset now has a home: the generation, the components and the table
--- afterwards.
-abbrev pub growsTo : ℕ → List Component → List TargetRecord → Reply
-growsTo generation cs table =
-    grown
-    (record {
-      answer = gives (record { home = true; changed = true });
-      layout = packed generation cs;
-      table = table;
-    })
 
 -- What is answered, row by row. Rows j to m have all the components afterwards, also those that the paper does not repeat.
 abbrev pub answers : List Reply

@@ -1,2 +1,3 @@
 pub mod Asking
 pub mod Examples
+pub mod More

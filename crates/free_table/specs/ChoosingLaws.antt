@@ -16,7 +16,8 @@ use Rattle.layout.specs.Records.{noObject}
 use Rattle.layout.specs.Distinct.{sameObject}
 use Rattle.layout.specs.FactLaws.{same-object}
 use Rattle.free_table.specs.declared.TargetRecord.{TargetRecord}
-use Rattle.free_table.specs.Table.{noRecord, targetOk, targetAbove, rising, tableOk}
+use Rattle.free_table.specs.declared.Table.{Table}
+use Rattle.free_table.specs.Table.{noRecord, tableOf, targetOk, targetAbove, rising, tableOk}
 use Rattle.free_table.specs.TableLaws.{first-rises, rises-first, rising-lower, target-most, target-rises}
 use Rattle.free_table.specs.Choosing.{nextObject, raised, passing, chosen, raisedFirst}
 
@@ -24,6 +25,10 @@ use Rattle.free_table.specs.Choosing.{nextObject, raised, passing, chose
 pub table-facts : (rs : List TargetRecord) → tableOk rs ≡ true → (length rs ≤ 64) × (rising 0 rs ≡ true)
 unfolding tableOk
 table-facts rs e = let p = both-true (leb (length rs) 64) (rising 0 rs) e in (leb-true (length rs) 64 (p .0), p .1)
+
+-- Of a table that is not bad the count is at most 64: its array has 65 places, so a higher count means more than 64 records.
+pub table-count : (t : Table) → length (t .records) ≡ 65 → tableOk (tableOf t) ≡ true → t .count ≤ 64
+table-count t h e = omega (arith, table-facts (tableOf t) e .0, length-take (t .count) (t .records))
 
 -- The next object of the record at a place.
 pub next-at : (rs : List TargetRecord) (i : ℕ) → getD (map nextObject rs) i noObject ≡ nextObject (getD rs i noRecord)

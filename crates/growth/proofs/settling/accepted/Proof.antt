@@ -1,0 +1,13 @@
+-- `growth::settling::accepted` meets its contract.
+use mathlib.Core.Path.{refl}
+use borrow.Author.Needs.{needs}
+use Rattle.growth.specs.Answers.{growSays}
+use Rattle.growth.proofs.settling.accepted.Statement.{statement}
+use Rattle.growth.proofs.settling.accepted.Tie as tie
+
+returns : tie.Need-returns
+unfolding growSays
+returns c = (rw (c .has-home .ensures), refl, refl)
+
+pub accepted-spec : {M : Type 1} → statement M
+accepted-spec = tie.close (tie.spec (λ c κs. search needs) returns)

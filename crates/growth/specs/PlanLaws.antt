@@ -1,0 +1,298 @@
+-- The plans that the code makes say what the definitions of the steps say.
+use Prim.Native.Nat.{ℕ, _+_, _≤_}
+use mathlib.Core.Path.{_≡_, refl, sym, ap, _∙_}
+use mathlib.Core.List.{List, [], _∷_, _++_, append-assoc}
+use mathlib.Core.Bool.{Bool, true, false, not, cond, _||_}
+use native.Mathlib.Omega.{arith}
+use native.Mathlib.Nat.{add-zero}
+use lib.Dec.{eqb}
+use lib.IntN.{pos}
+use lib.ListN.{length, getD, take, drop, length-append}
+use lib.Seq.{getD-take, take-append-add, drop-append-add}
+use Rattle.lists.specs.Bools.{cond-elim, bool-cases, clash}
+use Rattle.layout.specs.declared.Object.{Object}
+use Rattle.layout.specs.declared.Component.{Component}
+use Rattle.layout.specs.Records.{noObject, packObjects, recordsOf}
+use Rattle.layout.specs.RecordLaws.{records-pack}
+use Rattle.free_table.specs.Table.{anyLow, usable}
+use Rattle.free_table.specs.Choosing.{chosen}
+use Rattle.free_table.specs.ChoosingLaws.{chosen-few}
+use Rattle.growth_rules.specs.Parts.{withExtent, madeInit, repeatOf, reach, leaving, following}
+use Rattle.growth_rules.specs.Parts.{granting as granted}
+use Rattle.growth_rules.specs.Steps.{Call, Step, stays, lacks, changes, choosing, heldStep, spillStep, lowStep, extensionStep}
+use Rattle.growth_rules.specs.StepLaws.{behindAll, behind-changes, behind-stays, behind-lacks}
+use Rattle.growth.specs.declared.Plan.{Plan}
+use Rattle.growth.specs.Plans.{standing, planned, plannedObjects, planSays, noPlan, replacing, granting, initWith, repeatBase, onObjects}
+use Rattle.growth.specs.Plans.{choosingPlan, heldPlan, followPlan, spillPlan, repeatPlan, lowPlan, extensionPlan}
+
+-- Of the components cs behind others, a plan says the step s behind those others; its own are among them all; it has chosen
+-- at most 16 object records, and as many as it says.
+pub record Means (before cs : List Component) (p : Plan) (s : Step) : Type 0 where
+  pub says : planSays p (before ++ cs) ≡ behindAll before s
+  pub within : p .at + p .old ≤ length (before ++ cs)
+  pub few : p .chosen ≤ 16
+  pub counted : length (plannedObjects p) ≡ p .chosen
+
+-- By a test: each of two plans says a step behind the same components.
+by-test : {before cs : List Component} (t : Bool) {p q : Plan} {s r : Step}
+    → (t ≡ true → Means before cs p s) → (t ≡ false → Means before cs q r) → Means before cs (cond t p q) (cond t s r)
+by-test true f g = f refl
+by-test false f g = g refl
+
+-- The first of the packed object records.
+first-packed : (os : List Object) → length os ≤ 16 → getD (packObjects os) 0 noObject ≡ getD os 0 noObject
+unfolding packObjects
+first-packed [] h = refl
+first-packed (o ∷ os) h =
+    sym (getD-take (length (o ∷ os)) (packObjects (o ∷ os)) 0 noObject (omega arith))
+    ∙ ap (λ (l : List Object). getD l 0 noObject) (records-pack (o ∷ os) h)
+
+-- A component made init on the packed object records is made init on them.
+made-init : (os : List Object) (c : Component) → length os ≤ 16 → initWith (packObjects os) c ≡ madeInit os c
+made-init os c h = rw (first-packed os h)
+
+-- What a plan makes of components behind others.
+planned-behind : (p : Plan) (before cs : List Component) (a : ℕ) → p .at ≡ length before + a
+    → planned p (before ++ cs) ≡ before ++ (take a cs ++ standing p (drop (p .old) (drop a cs)))
+planned-behind p before cs a e =
+    rw (e, take-append-add before cs a, drop-append-add before cs a)
+    (append-assoc before (take a cs) (standing p (drop (p .old) (drop a cs))))
+
+-- An extension stands there exactly if it has bytes left.
+left-over : (t : Bool) (x : Component) (cs : List Component) → cond (not t) (x ∷ cs) cs ≡ cond t cs (x ∷ cs)
+left-over true x cs = refl
+left-over false x cs = refl
+
+-- What a grant puts there,
+granting-stands : (at old from : ℕ) (c x : Component) (cs : List Component)
+    → standing (granting at old c x from) cs ≡ withExtent (c .begin) (reach from x) c ∷ leaving (reach from x) x cs
+unfolding leaving
+granting-stands at old from c x cs =
+    ap (λ (l : List Component). withExtent (c .begin) (reach from x) c ∷ l)
+    (left-over (eqb (reach from x) (x .end)) (withExtent (reach from x) (x .end) x) cs)
+
+-- and on chosen object records.
+chosen-stands : (at old from : ℕ) (c x : Component) (cs : List Component) (os : List Object) → length os ≤ 16
+    → standing (onObjects (granting at old c x from) os) cs
+    ≡ withExtent (c .begin) (reach from x) (madeInit os c) ∷ leaving (reach from x) x cs
+unfolding leaving
+chosen-stands at old from c x cs os h =
+    rw (made-init os (withExtent (c .begin) (reach from x) c) h)
+    (ap (λ (l : List Component). withExtent (c .begin) (reach from x) (madeInit os c) ∷ l)
+    (left-over (eqb (reach from x) (x .end)) (withExtent (reach from x) (x .end) x) cs))
+
+module _ (k : Call) where
+  -- Choosing behind other components.
+  behind-choosing : (before : List Component) (s : ℕ) (made : List Object → List Component) (other : Step)
+      → behindAll before (choosing k s made other) ≡ choosing k s (λ os. before ++ made os) (behindAll before other)
+  unfolding choosing
+  behind-choosing before s made other =
+      bool-cases (eqb (length (chosen (usable (k .mark)) s (k .table))) s)
+      (λ e. rw e (behind-changes before (made (chosen (usable (k .mark)) s (k .table))) (chosen (usable (k .mark)) s (k .table))))
+      (λ e. rw e)
+
+  -- Choosing gives the same where the same is made of the chosen object records, of which there are at most 16.
+  same-choosing : (s : ℕ) → s ≤ 16 → (made made' : List Object → List Component) (other : Step)
+      → ((os : List Object) → length os ≤ 16 → made os ≡ made' os) → choosing k s made other ≡ choosing k s made' other
+  unfolding choosing
+  same-choosing s h made made' other e =
+      let os = chosen (usable (k .mark)) s (k .table) in
+      let same = e os (omega (arith, chosen-few (usable (k .mark)) s (k .table))) in
+      ap (λ (cs : List Component). cond (eqb (length os) s) (changes cs os) other) same
+
+  -- A plan that changes components, with targets chosen for the one that it makes.
+  choosing-means : (p : Plan) (cs : List Component) → p .lacks ≡ false → p .changes ≡ true → p .made .«stripe_count» ≤ 16
+      → p .at + p .old ≤ length cs
+      → Means [] cs (choosingPlan (k .mark) (k .table) p)
+      (choosing k (p .made .«stripe_count») (λ os. planned (onObjects p os) cs) lacks)
+  unfolding choosingPlan choosing planSays noPlan
+  choosing-means p cs l c h w =
+      let s = p .made .«stripe_count» in
+      let os = chosen (usable (k .mark)) s (k .table) in
+      let few = chosen-few (usable (k .mark)) s (k .table) in
+      bool-cases (eqb (length os) s)
+      (λ e. record {
+        says = rw (e, l, c, records-pack os (omega arith));
+        within = rw e w;
+        few = rw e (omega arith);
+        counted = rw e (ap length (records-pack os (omega arith)));
+      })
+      (λ e. record { says = rw e; within = rw e (omega arith); few = rw e (omega arith); counted = rw e })
+
+  -- The same, where the plan stands behind other components and makes what a step makes of the chosen object records.
+  choosing-behind : (p : Plan) (before cs : List Component) → p .lacks ≡ false → p .changes ≡ true → p .made .«stripe_count» ≤ 16
+      → p .at + p .old ≤ length (before ++ cs) → (made : List Object → List Component)
+      → ((os : List Object) → length os ≤ 16 → planned (onObjects p os) (before ++ cs) ≡ before ++ made os)
+      → Means before cs (choosingPlan (k .mark) (k .table) p) (choosing k (p .made .«stripe_count») made lacks)
+  choosing-behind p before cs l c h w made e =
+      let m = choosing-means p (before ++ cs) l c h w in
+      let s = p .made .«stripe_count» in
+      record {
+        says =
+            m .says
+            ∙ same-choosing s h (λ os. planned (onObjects p os) (before ++ cs)) (λ os. before ++ made os) lacks e
+            ∙ sym (behind-choosing before s made lacks ∙ ap (choosing k s (λ os. before ++ made os)) (behind-lacks before));
+        within = m .within;
+        few = m .few;
+        counted = m .counted;
+      }
+
+  module _ (before : List Component) (j : ℕ) (place : j ≡ length before) where
+    -- The component c behind others holds the offset.
+    pub held-means : (c : Component) (cs : List Component) → c .«stripe_count» ≤ 16
+        → Means before (c ∷ cs) (heldPlan (k .mark) (k .table) j c) (heldStep k c cs)
+    unfolding heldPlan heldStep noPlan planSays
+    held-means c cs h =
+        bool-cases (c .init || c .extension)
+        (λ e. rw e record { says = sym (behind-stays before); within = omega arith; few = omega arith; counted = refl })
+        (λ e. rw e
+        (choosing-behind (replacing j 1 c) before (c ∷ cs) refl refl h
+        (omega (arith, length-append before (c ∷ cs))) (λ os. madeInit os c ∷ cs)
+        (λ os few. planned-behind (onObjects (replacing j 1 c) os) before (c ∷ cs) 0 (place ∙ sym (add-zero (length before)))
+        ∙ rw (made-init os c few))))
+
+    -- The position of the component directly behind.
+    next-place : j + 1 ≡ length before + 1
+    next-place = rw place
+
+    module _ (c x : Component) where
+      -- A grant to c from the extension x directly behind it,
+      grant-planned : (cs : List Component) → planned (granting j 2 c x (x .begin)) (before ++ (c ∷ x ∷ cs)) ≡ before ++ granted c x cs
+      unfolding granted
+      grant-planned cs =
+          planned-behind (granting j 2 c x (x .begin)) before (c ∷ x ∷ cs) 0 (place ∙ sym (add-zero (length before)))
+          ∙ ap (λ (l : List Component). before ++ l) (granting-stands j 2 (x .begin) c x cs)
+
+      pub grant-means : (cs : List Component) → Means before (c ∷ x ∷ cs) (granting j 2 c x (x .begin))
+          (changes (granted c x cs) [])
+      unfolding planSays
+      grant-means cs =
+          record {
+            says = rw (grant-planned cs) (sym (behind-changes before (granted c x cs) []));
+            within = omega (arith, length-append before (c ∷ x ∷ cs));
+            few = omega arith;
+            counted = refl;
+          }
+
+      -- and where targets are chosen for c.
+      pub init-means : (cs : List Component) → c .«stripe_count» ≤ 16
+          → Means before (c ∷ x ∷ cs) (choosingPlan (k .mark) (k .table) (granting j 2 c x (x .begin)))
+          (choosing k (c .«stripe_count») (λ os. granted (madeInit os c) x cs) lacks)
+      unfolding granted
+      init-means cs h =
+          choosing-behind (granting j 2 c x (x .begin)) before (c ∷ x ∷ cs) refl refl h
+          (omega (arith, length-append before (c ∷ x ∷ cs))) (λ os. granted (madeInit os c) x cs)
+          (λ os few. planned-behind (onObjects (granting j 2 c x (x .begin)) os) before (c ∷ x ∷ cs) 0 (place ∙ sym (add-zero (length before)))
+          ∙ ap (λ (l : List Component). before ++ l) (chosen-stands j 2 (x .begin) c x cs os few))
+
+      -- Spill-over onto an init component,
+      onto-init : (n : Component) (cs : List Component) → Means before (c ∷ x ∷ n ∷ cs)
+          (replacing (j + 1) 2 (withExtent (x .begin) (n .end) n))
+          (changes (c ∷ withExtent (x .begin) (n .end) n ∷ cs) [])
+      unfolding planSays
+      onto-init n cs =
+          let p = replacing (j + 1) 2 (withExtent (x .begin) (n .end) n) in
+          record {
+            says =
+                rw (planned-behind p before (c ∷ x ∷ n ∷ cs) 1 next-place)
+                (sym (behind-changes before (c ∷ withExtent (x .begin) (n .end) n ∷ cs) []));
+            within = omega (arith, length-append before (c ∷ x ∷ n ∷ cs));
+            few = omega arith;
+            counted = refl;
+          }
+
+      -- onto one that is chosen for, where no extension follows it,
+      onto-bare : (n : Component) (cs : List Component) → n .«stripe_count» ≤ 16 → Means before (c ∷ x ∷ n ∷ cs)
+          (choosingPlan (k .mark) (k .table) (replacing (j + 1) 2 (withExtent (x .begin) (n .end) n)))
+          (choosing k (n .«stripe_count») (λ os. c ∷ withExtent (x .begin) (n .end) (madeInit os n) ∷ cs) lacks)
+      onto-bare n cs h =
+          let p = replacing (j + 1) 2 (withExtent (x .begin) (n .end) n) in
+          choosing-behind p before (c ∷ x ∷ n ∷ cs) refl refl h (omega (arith, length-append before (c ∷ x ∷ n ∷ cs)))
+          (λ os. c ∷ withExtent (x .begin) (n .end) (madeInit os n) ∷ cs)
+          (λ os few. planned-behind (onObjects p os) before (c ∷ x ∷ n ∷ cs) 1 next-place
+          ∙ rw (made-init os (withExtent (x .begin) (n .end) n) few))
+
+      -- and where the extension y follows it.
+      onto-extended : (n y : Component) (cs : List Component) → n .«stripe_count» ≤ 16 → Means before (c ∷ x ∷ n ∷ y ∷ cs)
+          (choosingPlan (k .mark) (k .table) (granting (j + 1) 3 (withExtent (x .begin) (n .end) n) y (x .begin)))
+          (choosing k (n .«stripe_count»)
+          (λ os. c ∷ withExtent (x .begin) (reach (x .begin) y) (madeInit os n) ∷ leaving (reach (x .begin) y) y cs) lacks)
+      onto-extended n y cs h =
+          let m = withExtent (x .begin) (n .end) n in
+          let p = granting (j + 1) 3 m y (x .begin) in
+          choosing-behind p before (c ∷ x ∷ n ∷ y ∷ cs) refl refl h (omega (arith, length-append before (c ∷ x ∷ n ∷ y ∷ cs)))
+          (λ os. c ∷ withExtent (x .begin) (reach (x .begin) y) (madeInit os n) ∷ leaving (reach (x .begin) y) y cs)
+          (λ os few. planned-behind (onObjects p os) before (c ∷ x ∷ n ∷ y ∷ cs) 1 next-place
+          ∙ ap (λ (l : List Component). before ++ (c ∷ l)) (chosen-stands (j + 1) 3 (x .begin) m y cs os few))
+
+      -- A component that is chosen for, where t says that the extension y follows it.
+      followed-means : (n y : Component) (cs : List Component) → n .«stripe_count» ≤ 16 → (t : Bool)
+          → let m = withExtent (x .begin) (n .end) n in Means before (c ∷ x ∷ n ∷ y ∷ cs)
+          (choosingPlan (k .mark) (k .table) (cond t (granting (j + 1) 3 m y (x .begin)) (replacing (j + 1) 2 m)))
+          (choosing k (n .«stripe_count»)
+          (λ os. c
+          ∷ cond t (withExtent (x .begin) (reach (x .begin) y) (madeInit os n) ∷ leaving (reach (x .begin) y) y cs)
+          (withExtent (x .begin) (n .end) (madeInit os n) ∷ y ∷ cs)) lacks)
+      followed-means n y cs h true = onto-extended n y cs h
+      followed-means n y cs h false = onto-bare n (y ∷ cs) h
+
+      -- Spill-over.
+      spill-means : (n : Component) (cs : List Component) → n .«stripe_count» ≤ 16
+          → Means before (c ∷ x ∷ n ∷ cs) (spillPlan (k .mark) (k .table) j x n cs) (spillStep k c x n cs)
+      unfolding spillPlan spillStep followPlan following
+      spill-means n [] h = by-test (n .init) (λ i. onto-init n []) (λ i. onto-bare n [] h)
+      spill-means n (y ∷ cs) h =
+          by-test (n .init) (λ i. onto-init n (y ∷ cs)) (λ i. followed-means n y cs h (y .extension))
+
+      -- By the test t that there are enough targets: the plan q, which lacks none, says the step s; else the grant to c
+      -- stands in.
+      repeat-or-grant : (t : Bool) (q : Plan) {s : Step} → q .lacks ≡ false → Means before (c ∷ x ∷ []) q s
+          → let p = cond t q (noPlan true) in
+          Means before (c ∷ x ∷ []) (cond (p .lacks) (granting j 2 c x (x .begin)) p) (cond t s (changes (granted c x []) []))
+      unfolding noPlan
+      repeat-or-grant true q {s} e m =
+          cond-elim (λ (r : Plan). Means before (c ∷ x ∷ []) r s) (q .lacks) (λ t. clash t e) (λ f. m)
+      repeat-or-grant false q e m = grant-means []
+
+      -- Repeat, or forced extension.
+      repeat-means : (new : ℕ) → c .«stripe_count» ≤ 16
+          → Means before (c ∷ x ∷ []) (repeatPlan (k .mark) (k .table) new j c x) (lowStep k new c x [])
+      unfolding repeatPlan choosingPlan lowStep choosing planSays noPlan
+      repeat-means new h =
+          let s = c .«stripe_count» in
+          let os = chosen (usable (k .mark)) s (k .table) in
+          let few : length os ≤ 16 = omega (arith, chosen-few (usable (k .mark)) s (k .table)) in
+          let q = granting (j + 1) 1 (repeatBase new (x .begin) c) x (x .begin) in
+          let e = reach (x .begin) x in
+          let made = c ∷ repeatOf new c (x .begin) e os ∷ leaving e x [] in
+          repeat-or-grant (eqb (length os) s) (onObjects q os) refl
+          record {
+            says =
+                rw (
+                  planned-behind (onObjects q os) before (c ∷ x ∷ []) 1 next-place,
+                  chosen-stands (j + 1) 1 (x .begin) (repeatBase new (x .begin) c) x [] os few,
+                  records-pack os few,
+                ) (sym (behind-changes before made os));
+            within = omega (arith, length-append before (c ∷ x ∷ []));
+            few = few;
+            counted = ap length (records-pack os few);
+          }
+
+      -- A target of c is low.
+      low-means : (new : ℕ) (cs : List Component) → c .«stripe_count» ≤ 16
+          → ((n : Component) (rest : List Component) → cs ≡ n ∷ rest → n .«stripe_count» ≤ 16)
+          → Means before (c ∷ x ∷ cs) (lowPlan (k .mark) (k .table) new j c x cs) (lowStep k new c x cs)
+      unfolding lowPlan lowStep
+      low-means new [] h f = repeat-means new h
+      low-means new (n ∷ cs) h f = spill-means n cs (f n cs refl)
+
+      -- The extension x holds the offset.
+      pub extension-means : (new : ℕ) (cs : List Component) → c .«stripe_count» ≤ 16
+          → ((n : Component) (rest : List Component) → cs ≡ n ∷ rest → n .«stripe_count» ≤ 16)
+          → Means before (c ∷ x ∷ cs) (extensionPlan (k .mark) (k .table) new j (c ∷ x ∷ cs))
+          (extensionStep k new c x cs)
+      unfolding extensionPlan extensionStep
+      extension-means new cs h f =
+          by-test (c .init)
+          (λ i. by-test (anyLow (k .mark) (k .table) (recordsOf c)) (λ e. low-means new cs h f) (λ e. grant-means cs))
+          (λ i. init-means cs h)

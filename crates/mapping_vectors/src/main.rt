@@ -1,7 +1,6 @@
 // Runs lookup, back and cut on the cases that are the text of standard input. A line that begins with a letter is a
 // case: a name, a colon, the call, the name of a layout, and numbers. It prints its name and what was given. The other
 // lines define layouts, or begin with # and say something to the reader.
-mod layouts;
 mod pieces;
 mod text;
 
@@ -45,20 +44,24 @@ fn run(word: u8, l: Layout, v: [u64; 40]) {
 }
 
 // Runs the case from `from` to `to`: the call, the name of the layout and the numbers.
-fn case(s: &[u8], definitions: [usize; 32], from: usize, to: usize) {
+fn case(s: &[u8], definitions: [usize; 64], from: usize, to: usize) {
     let name = std::num::wrapping_add_usize(case_text::find(s, from, to, b' '), 1);
-    let place = layouts::definition(s, definitions, name);
+    let place = case_layouts::definition(s, definitions, name);
     if s.len() <= place {
         io::write_all(1, b" no such layout");
         return;
     }
     let space = case_text::find(s, name, to, b' ');
-    let v = text::numbers(s, std::num::wrapping_add_usize(space, 1), to);
-    run(case_text::byte_at(s, from), layouts::defined(s, place), v);
+    let v = case_layouts::words::numbers(s, std::num::wrapping_add_usize(space, 1), to);
+    run(
+        case_text::byte_at(s, from),
+        case_layouts::defined(s, place),
+        v,
+    );
 }
 
 // Runs the line from `from` to `to`. Gives the number of cases so far.
-fn line(n: u64, s: &[u8], definitions: [usize; 32], from: usize, to: usize) -> u64 {
+fn line(n: u64, s: &[u8], definitions: [usize; 64], from: usize, to: usize) -> u64 {
     if case_text::byte_at(s, from) < b'A' {
         return n;
     }
@@ -73,7 +76,7 @@ fn line(n: u64, s: &[u8], definitions: [usize; 32], from: usize, to: usize) -> u
 // Runs all lines. Gives the number of cases.
 fn lines(s: &[u8]) -> u64 {
     let to = s.len();
-    let definitions = layouts::definitions(s);
+    let definitions = case_layouts::definitions(s);
     let mut n: u64 = 0;
     let mut at: usize = 0;
     while at < to {

@@ -1,6 +1,7 @@
 // The layouts that the text of the cases defines: on a line a dollar sign, the name, the generation and the number of
 // components, and then a line for each component, up to an empty one.
-use crate::text;
+pub mod words;
+
 use layout::Component;
 use layout::Layout;
 use layout::Object;
@@ -61,7 +62,7 @@ fn next_word(s: &[u8], from: usize, to: usize) -> usize {
 
 // The component of the line from `from` to `to`, whose fourth word is `init`, `bare` or `extension`.
 fn component(s: &[u8], from: usize, to: usize) -> Component {
-    let v = text::numbers(s, from, to);
+    let v = words::numbers(s, from, to);
     let kind = next_word(s, next_word(s, next_word(s, from, to), to), to);
     match case_text::byte_at(s, kind) {
         b'i' => striped(v, true),
@@ -71,10 +72,10 @@ fn component(s: &[u8], from: usize, to: usize) -> Component {
 }
 
 // The layout whose definition goes on at `from`, behind its name.
-pub(crate) fn defined(s: &[u8], from: usize) -> Layout {
+pub fn defined(s: &[u8], from: usize) -> Layout {
     let to = s.len();
     let mut end = case_text::find(s, from, to, b'\n');
-    let v = text::numbers(s, from, end);
+    let v = words::numbers(s, from, end);
     let mut l = layout::no_layout();
     l.generation = (v[2] % 4294967296) as u32;
     l.count = v[4] as usize;
@@ -91,13 +92,13 @@ pub(crate) fn defined(s: &[u8], from: usize) -> Layout {
     l
 }
 
-// The places of the text's dollar signs, of which there are at most 32; the rest behind its end.
-pub(crate) fn definitions(s: &[u8]) -> [usize; 32] {
+// The places of the text's dollar signs, of which there are at most 64; the rest behind its end.
+pub fn definitions(s: &[u8]) -> [usize; 64] {
     let to = s.len();
-    let mut places = [to; 32];
+    let mut places = [to; 64];
     let mut at: usize = 0;
     let mut i: usize = 0;
-    while i < 32 {
+    while i < 64 {
         at = case_text::find(s, at, to, b'$');
         places[i] = at;
         at = std::num::wrapping_add_usize(at, 1);
@@ -108,12 +109,12 @@ pub(crate) fn definitions(s: &[u8]) -> [usize; 32] {
 
 // Where the definition of the layout whose name stands at `name` goes on behind the name; the end of the text where
 // there is none.
-pub(crate) fn definition(s: &[u8], definitions: [usize; 32], name: usize) -> usize {
+pub fn definition(s: &[u8], definitions: [usize; 64], name: usize) -> usize {
     let to = s.len();
     let mut i: usize = 0;
-    while i < 32 {
+    while i < 64 {
         let next = std::num::wrapping_add_usize(definitions[i], 1);
-        if text::is_word(s, next, name) {
+        if words::is_word(s, next, name) {
             return case_text::find(s, next, to, b' ');
         }
         i += 1;

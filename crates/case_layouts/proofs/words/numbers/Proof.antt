@@ -1,8 +1,8 @@
--- `mapping_vectors::text::numbers` is safe and ends: each turn of its loop brings it nearer to its bound.
+-- `case_layouts::words::numbers` is safe and ends: each turn of its loop brings it nearer to its bound.
 use Prim.Native.Nat.{_≤_, _-_}
 use borrow.Author.Needs.{needs}
-use Rattle.mapping_vectors.proofs.text.numbers.Statement.{statement}
-use Rattle.mapping_vectors.proofs.text.numbers.Tie as tie
+use Rattle.case_layouts.proofs.words.numbers.Statement.{statement}
+use Rattle.case_layouts.proofs.words.numbers.Tie as tie
 
 abbrev Inv-loop : tie.InvT-loop
 Inv-loop s from to r₀ at₀ i₀ r at i = i ≤ 40

@@ -1,8 +1,8 @@
--- `mapping_vectors::text::word_end` is safe and ends: each turn of its loop brings it nearer to its bound.
+-- `case_layouts::words::word_end` is safe and ends: each turn of its loop brings it nearer to its bound.
 use Prim.Native.Nat.{_≤_, _-_}
 use borrow.Author.Needs.{needs}
-use Rattle.mapping_vectors.proofs.text.word_end.Statement.{statement}
-use Rattle.mapping_vectors.proofs.text.word_end.Tie as tie
+use Rattle.case_layouts.proofs.words.word_end.Statement.{statement}
+use Rattle.case_layouts.proofs.words.word_end.Tie as tie
 
 abbrev Inv-loop : tie.InvT-loop
 Inv-loop s from to i₀ i = from ≤ i

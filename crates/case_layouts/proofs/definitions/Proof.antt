@@ -1,14 +1,14 @@
--- `mapping_vectors::layouts::definitions` is safe and ends: each turn of its loop brings it nearer to its bound.
+-- `case_layouts::definitions` is safe and ends: each turn of its loop brings it nearer to its bound.
 use Prim.Native.Nat.{_≤_, _-_}
 use borrow.Author.Needs.{needs}
-use Rattle.mapping_vectors.proofs.layouts.definitions.Statement.{statement}
-use Rattle.mapping_vectors.proofs.layouts.definitions.Tie as tie
+use Rattle.case_layouts.proofs.definitions.Statement.{statement}
+use Rattle.case_layouts.proofs.definitions.Tie as tie
 
 abbrev Inv-loop : tie.InvT-loop
-Inv-loop s to places₀ at₀ i₀ places at i = i ≤ 32
+Inv-loop s to places₀ at₀ i₀ places at i = i ≤ 64
 
 abbrev μ-loop : tie.MeasureT-loop
-μ-loop s to places₀ at₀ i₀ places at i = 32 - i
+μ-loop s to places₀ at₀ i₀ places at i = 64 - i
 
 pub definitions-spec : {M : Type 1} → statement M
 definitions-spec =

@@ -1,8 +1,8 @@
--- `mapping_vectors::text::is_word` is safe and ends: each turn of its loop brings it nearer to its bound.
+-- `case_layouts::words::is_word` is safe and ends: each turn of its loop brings it nearer to its bound.
 use Prim.Native.Nat.{_≤_, _-_}
 use borrow.Author.Needs.{needs}
-use Rattle.mapping_vectors.proofs.text.is_word.Statement.{statement}
-use Rattle.mapping_vectors.proofs.text.is_word.Tie as tie
+use Rattle.case_layouts.proofs.words.is_word.Statement.{statement}
+use Rattle.case_layouts.proofs.words.is_word.Tie as tie
 
 abbrev Inv-loop : tie.InvT-loop
 Inv-loop s place other to at₀ i₀ at i = place ≤ i

@@ -1,8 +1,8 @@
--- `mapping_vectors::layouts::defined` is safe and ends: each turn of its loop brings it nearer to its bound.
+-- `case_layouts::defined` is safe and ends: each turn of its loop brings it nearer to its bound.
 use Prim.Native.Nat.{_≤_, _-_}
 use borrow.Author.Needs.{needs}
-use Rattle.mapping_vectors.proofs.layouts.defined.Statement.{statement}
-use Rattle.mapping_vectors.proofs.layouts.defined.Tie as tie
+use Rattle.case_layouts.proofs.defined.Statement.{statement}
+use Rattle.case_layouts.proofs.defined.Tie as tie
 
 abbrev Inv-loop : tie.InvT-loop
 Inv-loop s from to end₀ l₀ i₀ end l i = i ≤ 16

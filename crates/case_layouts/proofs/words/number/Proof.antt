@@ -1,8 +1,8 @@
--- `mapping_vectors::text::number` is safe and ends: each turn of its loop brings it nearer to its bound.
+-- `case_layouts::words::number` is safe and ends: each turn of its loop brings it nearer to its bound.
 use Prim.Native.Nat.{_≤_, _-_}
 use borrow.Author.Needs.{needs}
-use Rattle.mapping_vectors.proofs.text.number.Statement.{statement}
-use Rattle.mapping_vectors.proofs.text.number.Tie as tie
+use Rattle.case_layouts.proofs.words.number.Statement.{statement}
+use Rattle.case_layouts.proofs.words.number.Tie as tie
 
 abbrev Inv-loop : tie.InvT-loop
 Inv-loop s from to r₀ i₀ r i = from ≤ i

@@ -1,8 +1,8 @@
--- `mapping_vectors::layouts::objects` is safe and ends: each turn of its loop brings it nearer to its bound.
+-- `case_layouts::objects` is safe and ends: each turn of its loop brings it nearer to its bound.
 use Prim.Native.Nat.{_≤_, _-_}
 use borrow.Author.Needs.{needs}
-use Rattle.mapping_vectors.proofs.layouts.objects.Statement.{statement}
-use Rattle.mapping_vectors.proofs.layouts.objects.Tie as tie
+use Rattle.case_layouts.proofs.objects.Statement.{statement}
+use Rattle.case_layouts.proofs.objects.Tie as tie
 
 abbrev Inv-loop : tie.InvT-loop
 Inv-loop v r₀ j₀ r j = j ≤ 16

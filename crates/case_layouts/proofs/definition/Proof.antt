@@ -1,14 +1,14 @@
--- `mapping_vectors::layouts::definition` is safe and ends: each turn of its loop brings it nearer to its bound.
+-- `case_layouts::definition` is safe and ends: each turn of its loop brings it nearer to its bound.
 use Prim.Native.Nat.{_≤_, _-_}
 use borrow.Author.Needs.{needs}
-use Rattle.mapping_vectors.proofs.layouts.definition.Statement.{statement}
-use Rattle.mapping_vectors.proofs.layouts.definition.Tie as tie
+use Rattle.case_layouts.proofs.definition.Statement.{statement}
+use Rattle.case_layouts.proofs.definition.Tie as tie
 
 abbrev Inv-loop : tie.InvT-loop
-Inv-loop s name definitions to i₀ i = i ≤ 32
+Inv-loop s name definitions to i₀ i = i ≤ 64
 
 abbrev μ-loop : tie.MeasureT-loop
-μ-loop s name definitions to i₀ i = 32 - i
+μ-loop s name definitions to i₀ i = 64 - i
 
 pub definition-spec : {M : Type 1} → statement M
 definition-spec =

@@ -1,5 +1,9 @@
 // The layouts that the text of the cases defines: on a line a dollar sign, the name, the generation and the number of
 // components, and then a line for each component, up to an empty one.
+ghost use mathlib.Core.Path.{_≡_};
+ghost use Rattle.case_layouts.specs.Layouts.{objectsOf, stripedOf, extensionOf, ofKind, componentOf, layoutAt};
+ghost use Rattle.case_layouts.specs.Layouts.{dollarsOf, definitionOf};
+
 pub mod words;
 
 use layout::Component;
@@ -12,7 +16,9 @@ const NONE: Object = Object {
 };
 
 // The object records of a component's numbers: a target and a number each, from place 7 on.
-fn objects(v: [u64; 40]) -> [Object; 16] {
+fn objects(v: [u64; 40]) -> [Object; 16]
+    ensures { λ r. ⌜ r ≡ objectsOf v ⌝ }
+{
     let mut r = [NONE; 16];
     let mut j: usize = 0;
     while j < 16 {
@@ -27,7 +33,9 @@ fn objects(v: [u64; 40]) -> [Object; 16] {
 
 // An init or a bare component of its numbers: id, begin, end, the word for its kind, stripe count, stripe size, first
 // target and object records. The first target of a bare one is -1.
-fn striped(v: [u64; 40], init: bool) -> Component {
+fn striped(v: [u64; 40], init: bool) -> Component
+    ensures { λ r. ⌜ r ≡ stripedOf v init ⌝ }
+{
     let mut c = Component {
         init: init,
         extension: false,
@@ -42,12 +50,15 @@ fn striped(v: [u64; 40], init: bool) -> Component {
     };
     if init {
         c.first_target = (v[6] % 65536) as i32;
+        return c;
     }
     c
 }
 
 // An extension of its numbers: its extension size stands in place of the stripe size.
-fn extension(v: [u64; 40]) -> Component {
+fn extension(v: [u64; 40]) -> Component
+    ensures { λ r. ⌜ r ≡ extensionOf v ⌝ }
+{
     let mut c = striped(v, false);
     c.extension = true;
     c.stripe_size = 0;
@@ -55,24 +66,36 @@ fn extension(v: [u64; 40]) -> Component {
     c
 }
 
-// The place behind the next space.
-fn next_word(s: &[u8], from: usize, to: usize) -> usize {
-    std::num::wrapping_add_usize(case_text::find(s, from, to, b' '), 1)
+// A component of its numbers and the first letter of its kind.
+fn of_kind(v: [u64; 40], kind: u8) -> Component
+    ensures { λ r. ⌜ r ≡ ofKind v kind ⌝ }
+{
+    if kind == b'i' {
+        return striped(v, true);
+    }
+    if kind == b'b' {
+        return striped(v, false);
+    }
+    extension(v)
 }
 
 // The component of the line from `from` to `to`, whose fourth word is `init`, `bare` or `extension`.
-fn component(s: &[u8], from: usize, to: usize) -> Component {
+fn component(s: &[u8], from: usize, to: usize) -> Component
+    ensures { λ r. ⌜ r ≡ componentOf (now (s .entry)) from to ⌝ }
+{
     let v = words::numbers(s, from, to);
-    let kind = next_word(s, next_word(s, next_word(s, from, to), to), to);
-    match case_text::byte_at(s, kind) {
-        b'i' => striped(v, true),
-        b'b' => striped(v, false),
-        _ => extension(v),
-    }
+    let kind = words::next_word(
+        s,
+        words::next_word(s, words::next_word(s, from, to), to),
+        to,
+    );
+    of_kind(v, case_text::byte_at(s, kind))
 }
 
 // The layout whose definition goes on at `from`, behind its name.
-pub fn defined(s: &[u8], from: usize) -> Layout {
+pub fn defined(s: &[u8], from: usize) -> Layout
+    ensures { λ r. ⌜ r ≡ layoutAt (now (s .entry)) from ⌝ }
+{
     let to = s.len();
     let mut end = case_text::find(s, from, to, b'\n');
     let v = words::numbers(s, from, end);
@@ -93,7 +116,9 @@ pub fn defined(s: &[u8], from: usize) -> Layout {
 }
 
 // The places of the text's dollar signs, of which there are at most 64; the rest behind its end.
-pub fn definitions(s: &[u8]) -> [usize; 64] {
+pub fn definitions(s: &[u8]) -> [usize; 64]
+    ensures { λ r. ⌜ r ≡ dollarsOf (now (s .entry)) ⌝ }
+{
     let to = s.len();
     let mut places = [to; 64];
     let mut at: usize = 0;
@@ -109,7 +134,9 @@ pub fn definitions(s: &[u8]) -> [usize; 64] {
 
 // Where the definition of the layout whose name stands at `name` goes on behind the name; the end of the text where
 // there is none.
-pub fn definition(s: &[u8], definitions: [usize; 64], name: usize) -> usize {
+pub fn definition(s: &[u8], definitions: [usize; 64], name: usize) -> usize
+    ensures { λ r. ⌜ r ≡ definitionOf (now (s .entry)) definitions name ⌝ }
+{
     let to = s.len();
     let mut i: usize = 0;
     while i < 64 {

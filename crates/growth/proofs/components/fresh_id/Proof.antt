@@ -3,10 +3,12 @@
 use Prim.Native.Nat.{suc, _+_, _-_, _≤_}
 use mathlib.Core.Path.{_≡_, refl, sym, _∙_}
 use native.Mathlib.Omega.{arith}
+use lib.Dec.{eqb}
 use lib.ListN.{length, take, length-map}
 use lib.Seq.{length-take-le}
 use borrow.Author.Needs.{needs}
 use borrow.Author.Tests.{not-true, not-false}
+use Rattle.lists.specs.Counting.{elem}
 use Rattle.layout.specs.Records.{idOf, idsOf}
 use Rattle.growth_rules.specs.Parts.{idFrom, freshId}
 use Rattle.growth.proofs.components.fresh_id.Statement.{statement}
@@ -27,12 +29,17 @@ loop-holds c =
     length-map (take (a .n) (a .list)) idOf ∙ length-take-le (a .n) (a .list) (omega arith) ∙ omega arith in
     (search needs, refl, rw e)
 
+-- Whether a component has the id.
+stands : (c : tie.After-has-id Inv-loop μ-loop) → let l = c .before .before in let a = l .before .args in
+    elem eqb (l .loop .id) (idsOf (take (a .n) (a .list))) ≡ c .has-id .result
+stands c = sym (c .has-id .ensures)
+
 returns : tie.Need-returns Inv-loop μ-loop
 returns c =
     let l = c .before .before .before in
     let a = l .before .args in
     let e : a .n - l .loop .i ≡ suc (a .n - (l .loop .i + 1)) = omega arith in
-    sym (l .loop .inv .2 ∙ rw (e, ← c .before .has-id .ensures, not-true (c .before .has-id .result) (c .if1 .taken)))
+    sym (l .loop .inv .2 ∙ rw (e, stands (c .before) ∙ not-true (c .before .has-id .result) (c .if1 .taken)))
 
 loop-again : tie.Need-loop-again Inv-loop μ-loop
 loop-again c =
@@ -41,7 +48,7 @@ loop-again c =
     let e : a .n - l .loop .i ≡ suc (a .n - (l .loop .i + 1)) = omega arith in (
       omega arith,
       omega arith,
-      l .loop .inv .2 ∙ rw (e, ← c .before .has-id .ensures, not-false (c .before .has-id .result) (c .if1 .left)),
+      l .loop .inv .2 ∙ rw (e, stands (c .before) ∙ not-false (c .before .has-id .result) (c .if1 .left)),
     )
 
 returns-2 : tie.Need-returns-2 Inv-loop μ-loop

@@ -1,13 +1,16 @@
 -- `growth::settling::change_refusal` meets its contract: the refusals are asked in their order.
 use mathlib.Core.Path.{_≡_, sym, _∙_}
+use mathlib.Core.Bool.{true, false}
 use native.Mathlib.Omega.{arith}
+use lib.Dec.{ltb, eqb}
 use lib.ListN.{length}
 use lib.Seq.{length-take-le}
 use borrow.Author.Needs.{needs}
 use borrow.Author.Tests.{lt-ltb, le-ltb, eq-eqb, ne-eqb}
 use Rattle.lists.specs.Slices.{unmapped}
-use Rattle.layout.specs.Records.{view}
-use Rattle.growth.specs.Plans.{planned, changeRefusal}
+use Rattle.layout.specs.Records.{recordsIn, view}
+use Rattle.growth_rules.specs.Growing.{meets}
+use Rattle.growth.specs.Plans.{planned, plannedObjects, changeRefusal}
 use Rattle.growth.specs.SpliceLaws.{planned-length}
 use Rattle.growth.proofs.settling.change_refusal.Statement.{statement}
 use Rattle.growth.proofs.settling.change_refusal.Tie as tie
@@ -22,43 +25,42 @@ counted c =
     let n = length-take-le (a .l .count) list (omega (arith, s .pre .0)) in
     c .planned-count .ensures ∙ sym (rw n at (planned-length (a .p) (view (a .l)) (omega (arith, n, s .pre .1))))
 
+-- There are at most 16 components by the plan.
+few : (c : tie.Else1) → let a = c .before .before .args in ltb 16 (length (planned (a .p) (view (a .l)))) ≡ false
+few c =
+    let a = c .before .before .args in
+    le-ltb 16 (length (planned (a .p) (view (a .l)))) (omega (arith, counted (c .before), c .if1 .left))
+
+-- Whether a chosen object stands in the layout.
+met : (c : tie.After-meets-layout) → let a = c .before .before .before .before .before .args in
+    meets (plannedObjects (a .p)) (recordsIn (view (a .l))) ≡ c .meets-layout .result
+met c = sym (c .meets-layout .ensures)
+
 returns : tie.Need-returns
 unfolding changeRefusal
 returns c =
     let a = c .before .before .args in
-    let m = length (planned (a .p) (view (a .l))) in
-    rw (lt-ltb 16 m (omega (arith, counted (c .before), c .if1 .taken)))
+    rw (lt-ltb 16 (length (planned (a .p) (view (a .l)))) (omega (arith, counted (c .before), c .if1 .taken)))
 
 returns-2 : tie.Need-returns-2
 unfolding changeRefusal
-returns-2 c =
-    let p = c .before .before .before .before in
-    let m = length (planned (p .before .before .args .p) (view (p .before .before .args .l))) in
-    rw (le-ltb 16 m (omega (arith, counted (p .before), p .if1 .left)), ← c .before .meets-layout .ensures, c .if2 .taken)
+returns-2 c = rw (few (c .before .before .before .before), met (c .before) ∙ c .if2 .taken)
 
 returns-3 : tie.Need-returns-3
 unfolding changeRefusal
 returns-3 c =
-    let p = c .before .before .before .before .before .before in
-    let m = length (planned (p .before .before .args .p) (view (p .before .before .args .l))) in
-    rw (
-      le-ltb 16 m (omega (arith, counted (p .before), p .if1 .left)),
-      ← c .before .before .before .meets-layout .ensures,
-      c .before .before .if2 .left,
-      eq-eqb _ _ (c .if3 .taken),
-    )
+    let p = c .before .before in
+    let a = p .before .before .before .before .before .before .args in
+    let last : eqb (a .l .generation) 4294967295 ≡ true = eq-eqb (a .l .generation) 4294967295 (c .if3 .taken) in
+    rw (few (p .before .before .before .before), met (p .before) ∙ p .if2 .left, last)
 
 returns-4 : tie.Need-returns-4
 unfolding changeRefusal
 returns-4 c =
-    let p = c .before .before .before .before .before .before in
-    let m = length (planned (p .before .before .args .p) (view (p .before .before .args .l))) in
-    rw (
-      le-ltb 16 m (omega (arith, counted (p .before), p .if1 .left)),
-      ← c .before .before .before .meets-layout .ensures,
-      c .before .before .if2 .left,
-      ne-eqb _ _ (c .if3 .left),
-    )
+    let p = c .before .before in
+    let a = p .before .before .before .before .before .before .args in
+    let below : eqb (a .l .generation) 4294967295 ≡ false = ne-eqb (a .l .generation) 4294967295 (c .if3 .left) in
+    rw (few (p .before .before .before .before), met (p .before) ∙ p .if2 .left, below)
 
 pub change-refusal-spec : {M : Type 1} → statement M
 change-refusal-spec =

@@ -1,0 +1,23 @@
+-- `growth::components::reach` meets its contract: where the extension's length from `from` on is above its size, the sum is below
+-- its end.
+use native.Mathlib.Omega.{arith}
+use Rattle.growth.proofs.components.reach.Statement.{statement}
+use Rattle.growth.proofs.components.reach.Tie as tie
+
+returns : tie.Need-returns
+returns c = omega arith
+
+sub-if2 : tie.Need-sub-if2
+sub-if2 c = omega arith
+
+returns-2 : tie.Need-returns-2
+returns-2 c = omega arith
+
+add-result : tie.Need-add-result
+add-result c = omega arith
+
+returns-3 : tie.Need-returns-3
+returns-3 c = omega arith
+
+pub reach-spec : {M : Type 1} → statement M
+reach-spec = tie.close (tie.spec returns sub-if2 returns-2 add-result returns-3)

@@ -16,7 +16,6 @@ use Rattle.mapping.specs.Homes.{Home, homeOf, isGiven, hasHome}
 use Rattle.mapping.specs.Lookup.{lookupIn}
 use Rattle.mapping.specs.HomeLaws.{lookup-home}
 use Rattle.free_table.specs.declared.Table.{Table}
-use Rattle.free_table.specs.declared.TargetRecord.{TargetRecord}
 use Rattle.free_table.specs.Table.{tableOf, withRecords}
 
 -- The first n elements of a list and those behind them are the list.

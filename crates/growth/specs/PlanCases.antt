@@ -45,9 +45,9 @@ module _ (mark : ℕ) (rs : List TargetRecord) where
   -- The component that holds the offset is init or an extension, or it is chosen for.
   module _ (i : ℕ) (c : Component) where
     abbrev heldBy : Bool → Plan
-    heldBy t = cond t (noPlan false) (choosingPlan mark rs (replacing i 1 c))
+    heldBy t = cond t (noPlan false c) (choosingPlan mark rs (replacing i 1 c))
 
-    pub held-stays : (c .init || c .extension) ≡ true → heldPlan mark rs i c ≡ noPlan false
+    pub held-stays : (c .init || c .extension) ≡ true → heldPlan mark rs i c ≡ noPlan false c
     unfolding heldPlan
     held-stays e = ap heldBy e
 

@@ -6,7 +6,6 @@ use mathlib.Core.Bool.{Bool, true, false, not, cond, _||_}
 use native.Mathlib.Omega.{arith}
 use native.Mathlib.Nat.{add-zero}
 use lib.Dec.{eqb}
-use lib.IntN.{pos}
 use lib.ListN.{length, getD, take, drop, length-append}
 use lib.Seq.{getD-take, take-append-add, drop-append-add}
 use Rattle.lists.specs.Bools.{cond-elim, bool-cases, clash}
@@ -19,7 +18,7 @@ use Rattle.free_table.specs.Choosing.{chosen}
 use Rattle.free_table.specs.ChoosingLaws.{chosen-few}
 use Rattle.growth_rules.specs.Parts.{withExtent, madeInit, repeatOf, reach, leaving, following}
 use Rattle.growth_rules.specs.Parts.{granting as granted}
-use Rattle.growth_rules.specs.Steps.{Call, Step, stays, lacks, changes, choosing, heldStep, spillStep, lowStep, extensionStep}
+use Rattle.growth_rules.specs.Steps.{Call, Step, lacks, changes, choosing, heldStep, spillStep, lowStep, extensionStep}
 use Rattle.growth_rules.specs.StepLaws.{behindAll, behind-changes, behind-stays, behind-lacks}
 use Rattle.growth.specs.declared.Plan.{Plan}
 use Rattle.growth.specs.Plans.{standing, planned, plannedObjects, planSays, noPlan, replacing, granting, initWith, repeatBase, onObjects}
@@ -247,12 +246,12 @@ module _ (k : Call) where
       -- By the test t that there are enough targets: the plan q, which lacks none, says the step s; else the grant to c
       -- stands in.
       repeat-or-grant : (t : Bool) (q : Plan) {s : Step} → q .lacks ≡ false → Means before (c ∷ x ∷ []) q s
-          → let p = cond t q (noPlan true) in
+          → (d : Component) → let p = cond t q (noPlan true d) in
           Means before (c ∷ x ∷ []) (cond (p .lacks) (granting j 2 c x (x .begin)) p) (cond t s (changes (granted c x []) []))
       unfolding noPlan
-      repeat-or-grant true q {s} e m =
+      repeat-or-grant true q {s} e m d =
           cond-elim (λ (r : Plan). Means before (c ∷ x ∷ []) r s) (q .lacks) (λ t. clash t e) (λ f. m)
-      repeat-or-grant false q e m = grant-means []
+      repeat-or-grant false q e m d = grant-means []
 
       -- Repeat, or forced extension.
       repeat-means : (new : ℕ) → c .«stripe_count» ≤ 16
@@ -276,7 +275,7 @@ module _ (k : Call) where
             within = omega (arith, length-append before (c ∷ x ∷ []));
             few = few;
             counted = ap length (records-pack os few);
-          }
+          } (q .made)
 
       -- A target of c is low.
       low-means : (new : ℕ) (cs : List Component) → c .«stripe_count» ≤ 16

@@ -44,21 +44,21 @@ unfoldable pub changeRefusal : Layout → List Component → List Object → ℕ
 changeRefusal l cs os =
     cond (ltb 16 (length cs)) 17 (cond (meets os (recordsIn (view l))) 18 (cond (eqb (l .generation) 4294967295) 19 0))
 
--- The plan that changes nothing, for want of usable targets or not.
-unfoldable pub noPlan : Bool → Plan
-noPlan lacking =
+-- The plan that changes nothing, for want of usable targets or not. The component that it names means nothing.
+unfoldable pub noPlan : Bool → Component → Plan
+noPlan lacking c =
     record {
       lacks = lacking;
       changes = false;
       at = 0;
       old = 0;
-      made = noComponent;
+      made = c;
       leaves = false;
-      left = noComponent;
+      left = c;
       chosen = 0;
     }
 
--- One component in place of `old` from position `at` on.
+-- One component in place of `old` from position `at` on. No extension is left.
 abbrev pub replacing : ℕ → ℕ → Component → Plan
 replacing at old made =
     record {
@@ -68,7 +68,7 @@ replacing at old made =
       old = old;
       made = made;
       leaves = false;
-      left = noComponent;
+      left = made;
       chosen = 0;
     }
 
@@ -143,11 +143,11 @@ module _ (mark : ℕ) (rs : List TargetRecord) where
   unfoldable pub choosingPlan : Plan → Plan
   choosingPlan p =
       let os = chosen (usable mark) (p .made .«stripe_count») rs in
-      cond (eqb (length os) (p .made .«stripe_count»)) (onObjects p os) (noPlan true)
+      cond (eqb (length os) (p .made .«stripe_count»)) (onObjects p os) (noPlan true (p .made))
 
   -- The component c at position i holds the offset.
   unfoldable pub heldPlan : ℕ → Component → Plan
-  heldPlan i c = cond (c .init || c .extension) (noPlan false) (choosingPlan (replacing i 1 c))
+  heldPlan i c = cond (c .init || c .extension) (noPlan false c) (choosingPlan (replacing i 1 c))
 
   -- Spill-over onto n, behind the extension x at position j + 1, before the components cs.
   unfoldable pub spillPlan : ℕ → Component → Component → List Component → Plan
@@ -169,8 +169,8 @@ module _ (mark : ℕ) (rs : List TargetRecord) where
 
   -- The second of the components, which stand from position j on, is an extension and holds the offset.
   unfoldable pub extensionPlan : ℕ → ℕ → List Component → Plan
-  extensionPlan new j [] = noPlan false
-  extensionPlan new j (c ∷ []) = noPlan false
+  extensionPlan new j [] = noPlan false noComponent
+  extensionPlan new j (c ∷ []) = noPlan false c
   extensionPlan new j (c ∷ x ∷ cs) =
       cond (c .init) (cond (anyLow mark rs (recordsOf c)) (lowPlan new j c x cs) (granting j 2 c x (x .begin)))
       (choosingPlan (granting j 2 c x (x .begin)))

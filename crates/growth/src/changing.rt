@@ -4,7 +4,6 @@ use layout::Component;
 use layout::Layout;
 ghost use mathlib.Core.Path.{_≡_};
 ghost use Prim.Native.Nat.{_+_, _-_, _<_, _≤_};
-ghost use lib.ListN.{take};
 ghost use lib.Seq.{sets, slice};
 ghost use Rattle.layout.specs.Records.{view, packed};
 ghost use Rattle.growth.specs.Plans.{planned, standing, standingCount};

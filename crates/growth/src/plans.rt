@@ -4,7 +4,6 @@ use crate::components;
 use free_table::Table;
 use layout::Component;
 use layout::Layout;
-use layout::Object;
 ghost use mathlib.Core.Path.{_≡_};
 ghost use mathlib.Core.Bool.{true};
 ghost use Prim.Native.Nat.{ℕ, _+_, _<_, _≤_};
@@ -20,36 +19,19 @@ ghost use Rattle.growth.specs.Answers.{callOf};
 ghost use Rattle.growth.specs.Plans.{noPlan, replacing, granting, choosingPlan, heldPlan, followPlan, spillPlan};
 ghost use Rattle.growth.specs.Plans.{repeatPlan, lowPlan, extensionPlan, PlanFor};
 
-const NO_OBJECT: Object = Object {
-    target: 0,
-    number: 0,
-};
-
-const NO_COMPONENT: Component = Component {
-    init: false,
-    extension: false,
-    id: 0,
-    stripe_count: 0,
-    stripe_size: 0,
-    first_target: 0,
-    begin: 0,
-    end: 0,
-    extension_size: 0,
-    objects: [NO_OBJECT; 16],
-};
-
-// The plan that changes nothing; `lacks` says that this is for want of usable targets.
-fn no_plan(lacks: bool) -> Plan
-    ensures { λ r. ⌜ r ≡ noPlan lacks ⌝ }
+// The plan that changes nothing; `lacks` says that this is for want of usable targets. What the component is means
+// nothing.
+fn no_plan(lacks: bool, c: Component) -> Plan
+    ensures { λ r. ⌜ r ≡ noPlan lacks c ⌝ }
 {
     Plan {
         lacks: lacks,
         changes: false,
         at: 0,
         old: 0,
-        made: NO_COMPONENT,
+        made: c,
         leaves: false,
-        left: NO_COMPONENT,
+        left: c,
         chosen: 0,
     }
 }
@@ -65,7 +47,7 @@ fn replacing(at: usize, old: usize, made: Component) -> Plan
         old: old,
         made: made,
         leaves: false,
-        left: NO_COMPONENT,
+        left: made,
         chosen: 0,
     }
 }
@@ -97,10 +79,10 @@ fn choosing(p: Plan, mark: u64, t: Table) -> Plan
 {
     let s = p.made.stripe_count as usize;
     let choice = free_table::choose(t, mark, s);
-    if choice.count != s {
-        return no_plan(true);
-    }
     let made = p.made;
+    if choice.count != s {
+        return no_plan(true, made);
+    }
     let mut q = p;
     q.made = components::init_with(made, choice);
     q.chosen = s;
@@ -113,7 +95,7 @@ fn held_plan(i: usize, c: Component, mark: u64, t: Table) -> Plan
     ensures { λ r. ⌜ r ≡ heldPlan mark (tableOf t) i c ⌝ }
 {
     if c.init | c.extension {
-        return no_plan(false);
+        return no_plan(false, c);
     }
     choosing(replacing(i, 1, c), mark, t)
 }

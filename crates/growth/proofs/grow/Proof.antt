@@ -1,6 +1,5 @@
 -- `growth::grow` meets its contract: 1 is asked first.
-use mathlib.Core.Path.{_≡_, sym, _∙_, subst}
-use native.Mathlib.Omega.{arith}
+use mathlib.Core.Path.{sym, _∙_, subst}
 use borrow.Author.Needs.{needs}
 use borrow.Author.Tests.{not-true, not-false}
 use Rattle.growth_rules.specs.Steps.{Call}

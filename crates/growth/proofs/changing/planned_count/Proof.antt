@@ -1,6 +1,5 @@
 -- `growth::changing::planned_count` meets its contract: two components stand there where an extension has bytes left, else
 -- one.
-use native.Mathlib.Omega.{arith}
 use borrow.Author.Needs.{needs}
 use Rattle.growth.proofs.changing.planned_count.Statement.{statement}
 use Rattle.growth.proofs.changing.planned_count.Tie as tie

@@ -1,6 +1,5 @@
 -- `growth::plans::choosing` meets its contract: there are as many chosen targets as stripes, or not.
 use mathlib.Core.Path.{_≡_, sym, ap, _∙_}
-use native.Mathlib.Omega.{arith}
 use lib.ListN.{length}
 use borrow.Author.Needs.{needs}
 use borrow.Author.Tests.{eq-eqb, ne-eqb}
@@ -15,11 +14,12 @@ use Rattle.growth.proofs.plans.choosing.Tie as tie
 returns : tie.Need-returns
 unfolding choosingPlan
 returns c =
-    let a = c .before .before .before .before .before .args in
-    let x = c .before .before .before .choose in
-    let os = chosen (usable (a .mark)) (a .p .made .«stripe_count») (tableOf (a .t)) in
+    let a = c .before .before .before .before .before .before .args in
+    let x = c .before .before .before .before .choose in
+    let s = a .p .made .«stripe_count» in
+    let os = chosen (usable (a .mark)) s (tableOf (a .t)) in
     let n : x .result .count ≡ length os = ap (λ (y : Choice). y .count) (x .ensures .0) in
-    rw (c .no-plan .ensures, ne-eqb (length os) (a .p .made .«stripe_count») (λ e. c .before .if1 .taken (n ∙ e)))
+    rw (c .no-plan .ensures, ne-eqb (length os) s (λ e. c .before .if1 .taken (n ∙ e)))
 
 returns-2 : tie.Need-returns-2
 unfolding choosingPlan
@@ -28,7 +28,7 @@ returns-2 c =
     let x = c .before .before .before .before .choose in
     let s = a .p .made .«stripe_count» in
     let os = chosen (usable (a .mark)) s (tableOf (a .t)) in
-    let n : length os ≡ s = sym (ap (λ (y : Choice). y .count) (x .ensures .0)) ∙ c .before .before .if1 .left in
+    let n : length os ≡ s = sym (ap (λ (y : Choice). y .count) (x .ensures .0)) ∙ c .before .if1 .left in
     let o : x .result .objects ≡ packObjects os = ap (λ (y : Choice). y .objects) (x .ensures .0) in
     rw (c .init-with .ensures, o, eq-eqb (length os) s n, n)
 

@@ -1,7 +1,7 @@
 -- `growth::plans::extension_plan` meets its contract.
 use Prim.Native.Nat.{_+_, _≤_, _<_}
 use mathlib.Core.Path.{_≡_, sym, ap, _∙_}
-use mathlib.Core.List.{List, _∷_}
+use mathlib.Core.List.{_∷_}
 use native.Mathlib.Omega.{arith}
 use lib.ListN.{length, getD, take}
 use lib.Seq.{slice}
@@ -9,7 +9,6 @@ use borrow.Author.Needs.{needs}
 use borrow.Author.Tests.{not-true, not-false}
 use Rattle.lists.specs.Slices.{slice-next, unmapped}
 use Rattle.layout.specs.Records.{idsOf}
-use Rattle.layout.specs.declared.Component.{Component}
 use Rattle.layout.proofs.Unread.{unread}
 use Rattle.free_table.specs.Table.{tableOf}
 use Rattle.free_table.specs.ChoosingLaws.{table-count}

@@ -1,6 +1,5 @@
 -- `growth::plans::held_plan` meets its contract.
 use mathlib.Core.Path.{sym, _∙_}
-use native.Mathlib.Omega.{arith}
 use borrow.Author.Needs.{needs}
 use Rattle.free_table.specs.Table.{tableOf}
 use Rattle.growth.specs.PlanCases.{held-stays, held-chooses}

@@ -3,8 +3,7 @@ use Prim.Native.Nat.{suc, _-_, _<_}
 use mathlib.Core.Path.{_≡_, ap, _∙_}
 use mathlib.Core.Bool.{true}
 use native.Mathlib.Omega.{arith}
-use lib.ListN.{length, getD}
-use borrow.Author.Needs.{needs}
+use lib.ListN.{getD}
 use borrow.Author.Tests.{not-true, not-false}
 use Rattle.layout.specs.declared.Component.{Component}
 use Rattle.layout.specs.Records.{noComponent, view}

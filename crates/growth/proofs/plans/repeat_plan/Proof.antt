@@ -1,7 +1,6 @@
 -- `growth::plans::repeat_plan` meets its contract.
 use Prim.Native.Nat.{_+_}
 use mathlib.Core.Path.{_≡_, _∙_}
-use native.Mathlib.Omega.{arith}
 use borrow.Author.Needs.{needs}
 use Rattle.free_table.specs.Table.{tableOf}
 use Rattle.growth.specs.Plans.{granting, repeatBase, choosingPlan, repeatPlan}

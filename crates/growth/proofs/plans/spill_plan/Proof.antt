@@ -1,7 +1,6 @@
 -- `growth::plans::spill_plan` meets its contract.
 use Prim.Native.Nat.{_+_}
 use mathlib.Core.Path.{sym, _∙_}
-use native.Mathlib.Omega.{arith}
 use lib.Seq.{slice}
 use borrow.Author.Needs.{needs}
 use Rattle.free_table.specs.Table.{tableOf}

@@ -1,6 +1,5 @@
 -- `growth::settling::settle` meets its contract: the plan lacks targets, or changes nothing, or changes components.
 use mathlib.Core.Path.{_≡_, sym, ap, _∙_, subst}
-use native.Mathlib.Omega.{arith}
 use borrow.Author.Needs.{needs}
 use borrow.Author.Tests.{not-true, not-false}
 use Rattle.layout.specs.Records.{view}

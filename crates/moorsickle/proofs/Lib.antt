@@ -1,0 +1,4 @@
+pub mod LentCollector
+pub mod Steps
+pub mod TableLent
+pub mod TableRows

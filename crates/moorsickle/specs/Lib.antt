@@ -1,0 +1,2 @@
+pub mod LentTable
+pub mod LentTableLaws

@@ -1,0 +1,212 @@
+-- The laws of refusal numbers: what the lowest number means, and the numbers that the calls' definitions give.
+use Prim.Native.Nat.{ℕ, zero, suc, _+_, _^_, _≤_, _<_}
+use mathlib.Core.Path.{_≡_, refl, sym, _∙_}
+use mathlib.Core.List.{List, [], _∷_}
+use mathlib.Core.Logic.{_↔_, _⊎_, inl, inr, ⊎-elim}
+use mathlib.Core.Bool.{Bool, true, false, not, cond, _&&_, _||_}
+use native.Mathlib.Omega.{arith}
+use lib.Dec.{leb, ltb, eqb}
+use lib.ListN.{length}
+use borrow.Author.Tests.{leb-true, leb-false, lt-ltb, le-ltb}
+use Rattle.lists.specs.Bools.{bool-cases, both-true}
+use Rattle.layout.specs.declared.Object.{Object}
+use Rattle.layout.specs.declared.Component.{Component}
+use Rattle.layout.specs.declared.Layout.{Layout}
+use Rattle.layout.specs.Records.{recordsIn, view}
+use Rattle.layout.specs.Rules.{valid}
+use Rattle.layout.specs.Holder.{holds, lastEnd}
+use Rattle.collector.specs.declared.Collector.{Collector}
+use Rattle.collector.specs.Collector.{collectorOk}
+use Rattle.collector.specs.Giving.{layoutOut}
+use Rattle.mapping.specs.declared.Piece.{Piece}
+use Rattle.mapping.specs.Answers.{answer}
+use Rattle.mapping.specs.Back.{fileByteIn, owner, hiddenRefusal}
+use Rattle.mapping.specs.Cutting.{roomAfter}
+use Rattle.paging.specs.Paging.{outBuffer}
+use Rattle.free_table.specs.Table.{tableOk}
+use Rattle.growth_rules.specs.Steps.{Call, Step, stays, lacks, changes}
+use Rattle.growth_rules.specs.Growing.{meets, stepOf, settling, growIn, growOf}
+use Rattle.moorsickle.specs.Numbers.{Refusal, _when_, lowest, rise, IsLowest, refusalAt, NoLower, answerNumber}
+use Rattle.moorsickle.specs.Numbers.{hidden, lacksTargets, leavesMany, meetsLayout, isChange}
+
+-- The first number is not below `from`, and the others rise from the next one on.
+rise-first : (from : ℕ) (r : Refusal) (rs : List Refusal) → rise from (r ∷ rs) ≡ true
+    → (from ≤ r .number) × (rise (r .number + 1) rs ≡ true)
+rise-first from r rs e =
+    let p = both-true (leb from (r .number)) (rise (r .number + 1) rs) e in
+    (leb-true from (r .number) (p .0), p .1)
+
+-- No number is below `from`.
+rise-at : (from : ℕ) (rs : List Refusal) → rise from rs ≡ true → (i : ℕ) → i < length rs → from ≤ refusalAt rs i .number
+rise-at from [] e i h = absurd (omega arith)
+rise-at from (r ∷ rs) e zero h = rise-first from r rs e .0
+rise-at from (r ∷ rs) e (suc i) h =
+    let p = rise-first from r rs e in
+    omega (arith, rise-at (r .number + 1) rs (p .1) i (omega arith), p .0)
+
+-- What is given is 0, or the number of a refusal of the list.
+lowest-listed : (rs : List Refusal) → (lowest rs ≡ 0) ⊎ ((i : ℕ) × (i < length rs) × (lowest rs ≡ refusalAt rs i .number))
+lowest-listed [] = inl refl
+lowest-listed (r ∷ rs) =
+    bool-cases (r .applies) (λ e. inr (0, omega arith, rw e))
+    (λ e. ⊎-elim (λ z. inl (rw e z)) (λ p. inr (suc (p .0), omega (arith, p .1), rw e (p .2))) (lowest-listed rs))
+
+-- So it is 0, or not below `from`.
+lowest-from : (from : ℕ) (rs : List Refusal) → rise from rs ≡ true → (lowest rs ≡ 0) ⊎ (from ≤ lowest rs)
+lowest-from from rs e =
+    ⊎-elim (λ z. inl z) (λ p. inr (omega (arith, rise-at from rs e (p .0) (p .1), p .2))) (lowest-listed rs)
+
+-- Where the number of a refusal is given, it applies, and none of a lower number does,
+given-applies : (from : ℕ) (rs : List Refusal) → 1 ≤ from → rise from rs ≡ true → (i : ℕ) → i < length rs
+    → lowest rs ≡ refusalAt rs i .number → (refusalAt rs i .applies ≡ true) × NoLower rs i
+given-applies from [] f e i h q = absurd (omega arith)
+given-applies from (r ∷ rs) f e zero h q =
+    let p = rise-first from r rs e in
+    bool-cases (r .applies)
+    (λ t. (t, λ j k l. absurd (omega (arith, rise-at from (r ∷ rs) e j k, later j k l))))
+    (λ t. ⊎-elim (λ z. absurd (omega (arith, z, rw t at q, p .0)))
+    (λ z. absurd (omega (arith, z, rw t at q)))
+    (lowest-from (r .number + 1) rs (p .1)))
+  where
+    later : (j : ℕ) → j < length (r ∷ rs) → refusalAt (r ∷ rs) j .number < r .number → ⊥
+    later zero k l = omega arith
+    later (suc j) k l = omega (arith, rise-at (r .number + 1) rs (rise-first from r rs e .1) j (omega arith))
+given-applies from (r ∷ rs) f e (suc i) h q =
+    let p = rise-first from r rs e in
+    let above = rise-at (r .number + 1) rs (p .1) i (omega arith) in
+    bool-cases (r .applies)
+    (λ t. absurd (omega (arith, rw t at q, above)))
+    (λ t. let g = given-applies (r .number + 1) rs (omega arith) (p .1) i (omega arith) (rw t at q) in
+    (g .0, none t (g .1)))
+  where
+    none : r .applies ≡ false → NoLower rs i → NoLower (r ∷ rs) (suc i)
+    none t g zero k l = t
+    none t g (suc j) k l = g j (omega arith) l
+
+-- and the number of a refusal that applies, while none of a lower number does, is given.
+applies-given : (from : ℕ) (rs : List Refusal) → rise from rs ≡ true → (i : ℕ) → i < length rs
+    → refusalAt rs i .applies ≡ true → NoLower rs i → lowest rs ≡ refusalAt rs i .number
+applies-given from [] e i h a none = absurd (omega arith)
+applies-given from (r ∷ rs) e zero h a none = rw a
+applies-given from (r ∷ rs) e (suc i) h a none =
+    let p = rise-first from r rs e in
+    let above = rise-at (r .number + 1) rs (p .1) i (omega arith) in
+    let first : r .applies ≡ false = none 0 (omega arith) (omega arith) in
+    rw first (applies-given (r .number + 1) rs (p .1) i (omega arith) a (λ j k l. none (suc j) (omega arith) l))
+
+-- 0 is given where no refusal applies,
+none-zero : (rs : List Refusal) → ((i : ℕ) → i < length rs → refusalAt rs i .applies ≡ false) → lowest rs ≡ 0
+none-zero [] f = refl
+none-zero (r ∷ rs) f = rw (f 0 (omega arith)) (none-zero rs (λ i h. f (suc i) (omega arith)))
+
+-- and only there.
+zero-none : (from : ℕ) (rs : List Refusal) → 1 ≤ from → rise from rs ≡ true → lowest rs ≡ 0
+    → (i : ℕ) → i < length rs → refusalAt rs i .applies ≡ false
+zero-none from [] f e z i h = absurd (omega arith)
+zero-none from (r ∷ rs) f e z i h =
+    let p = rise-first from r rs e in
+    bool-cases (r .applies) (λ t. absurd (omega (arith, rw t at z, p .0)))
+    (λ t. at-place i h t (zero-none (r .number + 1) rs (omega arith) (p .1) (rw t at z)))
+  where
+    at-place : (i : ℕ) → i < length (r ∷ rs) → r .applies ≡ false
+        → ((j : ℕ) → j < length rs → refusalAt rs j .applies ≡ false) → refusalAt (r ∷ rs) i .applies ≡ false
+    at-place zero h t g = t
+    at-place (suc j) h t g = g j (omega arith)
+
+module _ (rs : List Refusal) (n : ℕ) (g : IsLowest n rs) where
+  -- "each is given exactly if its condition holds and no lower one's does"
+  pub given-exactly : (i : ℕ) → i < length rs
+      → (n ≡ refusalAt rs i .number) ↔ ((refusalAt rs i .applies ≡ true) × NoLower rs i)
+  given-exactly i h = (
+    λ e. given-applies 1 rs (omega arith) (g .0) i h (sym (g .1) ∙ e),
+    λ p. g .1 ∙ applies-given 1 rs (g .0) i h (p .0) (p .1),
+  )
+
+  -- 0 is given exactly if no condition holds.
+  pub zero-exactly : (n ≡ 0) ↔ ((i : ℕ) → i < length rs → refusalAt rs i .applies ≡ false)
+  zero-exactly = (λ e. zero-none 1 rs (omega arith) (g .0) (sym (g .1) ∙ e), λ f. g .1 ∙ none-zero rs f)
+
+  -- No other number is given.
+  pub given-listed : (n ≡ 0) ⊎ ((i : ℕ) × (i < length rs) × (n ≡ refusalAt rs i .number))
+  given-listed = ⊎-elim (λ z. inl (g .1 ∙ z)) (λ p. inr (p .0, p .1, g .1 ∙ p .2)) (lowest-listed rs)
+
+-- A chain of tests gives the lowest number, test by test: n where the test refuses, else m, which the rest of the chain
+-- gives. The test refuses where it passes,
+pub refused-if : (t : Bool) (n : ℕ) {x m : ℕ} → x ≡ m → cond t n x ≡ cond t n m
+refused-if true n e = refl
+refused-if false n e = e
+
+-- or where it fails,
+pub refused-unless : (t : Bool) (n : ℕ) {x m : ℕ} → x ≡ m → cond t x n ≡ cond (not t) n m
+refused-unless true n e = e
+refused-unless false n e = refl
+
+-- or where one of two fails,
+pub refused-unless-both : (s t : Bool) (n : ℕ) {x m : ℕ} → x ≡ m → cond (s && t) x n ≡ cond (not s || not t) n m
+refused-unless-both true true n e = e
+refused-unless-both true false n e = refl
+refused-unless-both false t n e = refl
+
+-- or where a is above b.
+pub refused-above : (a b n : ℕ) {x m : ℕ} → x ≡ m → cond (leb a b) x n ≡ cond (ltb b a) n m
+refused-above a b n e =
+    bool-cases (leb a b) (λ q. rw (q, le-ltb b a (leb-true a b q)) e) (λ q. rw (q, lt-ltb b a (leb-false a b q)))
+
+-- The number of the layout out of a collector.
+pub layout-out-number : (c : Collector) → layoutOut c .refusal ≡ cond (collectorOk c && c .complete) 0 1
+unfolding layoutOut
+layout-out-number c = bool-cases (collectorOk c && c .complete) (λ e. rw e) (λ e. rw e)
+
+-- The number of the refusal of a byte that was found back.
+pub hidden-number : (o : Object) (p : ℕ) (cs : List Component)
+    → hiddenRefusal (owner o cs .begin) (owner o cs .end) (fileByteIn (owner o cs) o p) ≡ cond (hidden o p cs) 14 0
+unfolding hiddenRefusal hidden
+hidden-number o p cs =
+    let b = fileByteIn (owner o cs) o p in refused-unless-both (holds (owner o cs) b) (ltb b (2 ^ 64)) 14 refl
+
+-- The answer under the number of a refusal, or under 0, has that number.
+pub answer-under : {A : Type 0} (n : ℕ) (a : A) → answerNumber (answer n a) ≡ n
+answer-under zero a = refl
+answer-under (suc n) a = refl
+
+-- The number of what a call of growth gives, up to its step.
+pub growth-number : (l : Layout) (k : Call)
+    → answerNumber (growOf l k .answer)
+    ≡ cond (valid l)
+    (cond (leb (lastEnd (view l)) (k .offset)) 10
+    (cond (tableOk (k .table)) (answerNumber (settling l k (stepOf l k) .answer)) 15)) 1
+unfolding growOf growIn
+growth-number l k =
+    bool-cases (valid l)
+    (λ v. bool-cases (leb (lastEnd (view l)) (k .offset)) (λ e. rw (v, e))
+    (λ e. bool-cases (tableOk (k .table)) (λ t. rw (v, e, t)) (λ t. rw (v, e, t))))
+    (λ v. rw v)
+
+-- The number that a step of growth gives.
+pub step-number : (l : Layout) (k : Call) (s : Step)
+    → answerNumber (settling l k s .answer)
+    ≡ lowest (
+    16 when lacksTargets s
+    ∷ 17 when leavesMany s
+    ∷ 18 when meetsLayout (recordsIn (view l)) s
+    ∷ 19 when (isChange s && eqb (l .generation) 4294967295)
+    ∷ [])
+unfolding settling lacksTargets leavesMany meetsLayout isChange
+step-number l k stays = refl
+step-number l k lacks = refl
+step-number l k (changes cs os) =
+    bool-cases (ltb 16 (length cs)) (λ e. rw e)
+    (λ e. bool-cases (meets os (recordsIn (view l))) (λ q. rw (e, q))
+    (λ q. bool-cases (eqb (l .generation) 4294967295) (λ r. rw (e, q, r)) (λ r. rw (e, q, r))))
+
+-- Under the number of a refusal the buffer of a page stays as it was,
+pub buffer-kept : (n : ℕ) (page buffer : List ℕ) → 0 < n → outBuffer n page buffer ≡ buffer
+unfolding outBuffer
+buffer-kept zero page buffer h = absurd (omega arith)
+buffer-kept (suc n) page buffer h = refl
+
+-- and so do the numbers lent for pieces.
+pub room-kept : (n : ℕ) (ps : List Piece) (room : List ℕ) → 0 < n → roomAfter n ps room ≡ room
+unfolding roomAfter
+room-kept zero ps room h = absurd (omega arith)
+room-kept (suc n) ps room h = refl

@@ -1,5 +1,5 @@
 -- `moorsickle::grow` meets its contract: a walk of its MIR. The table is lent to `load` for a lifetime of that call and
--- comes back, `growth::grow` is called on what was loaded, and the table is given up to `write_back`, which says what it is at last.
+-- comes back, `growth::grow` is called on what was loaded, and the table is given up to `write_back`, which says its last records.
 use mathlib.Core.Path.{_≡_, refl, sym, ap, subst, _∙_}
 use Prim.Native.Nat.{ℕ, _<_, _≤_, _^_}
 use native.Mathlib.Omega.{arith}

@@ -1,0 +1,195 @@
+-- Laws of the host's calls: a layout that was read is valid; what the numbers are by the reading; and that the calls give
+-- what the library's calls give of the layout that was read.
+use Prim.Native.Nat.{ℕ, zero, suc, _≤_, _<_}
+use mathlib.Core.Path.{_≡_, refl, sym, ap, _∙_}
+use mathlib.Core.List.{List, [], _∷_}
+use mathlib.Core.Bool.{Bool, true, false, cond}
+use native.Mathlib.Omega.{arith}
+use lib.Dec.{eqb}
+use lib.ListN.{length}
+use borrow.Author.Tests.{eqb-true, eqb-false}
+use Rattle.lists.specs.Bools.{bool-cases, clash}
+use Rattle.layout.specs.Records.{view, packed}
+use Rattle.layout.specs.RecordLaws.{view-pack}
+use Rattle.layout.specs.Rules.{valid}
+use Rattle.layout.specs.FactLaws.{keeps-facts, facts-valid}
+use Rattle.collector.specs.declared.Collector.{Collector}
+use Rattle.collector.specs.declared.Reading.{Reading}
+use Rattle.collector.specs.Collector.{newCollector, gathered}
+use Rattle.collector.specs.Taking.{numberOf, pageIn, openIn}
+use Rattle.collector.specs.Runs.{Next, ended, broken, next, closed, following, readOn, readRun, hostCut}
+use Rattle.collector.specs.RunLaws.{Held, page-open, taken-held, new-held}
+use Rattle.mapping.specs.declared.Piece.{Piece}
+use Rattle.mapping.specs.Answers.{answer}
+use Rattle.mapping.specs.Homes.{Home, homeOf}
+use Rattle.mapping.specs.Lookup.{lookupRefusal, lookupIn}
+use Rattle.mapping.specs.Back.{backRefusal, byteOf, backIn}
+use Rattle.mapping.specs.Cutting.{cutRefusal, cutPieces, cutCount, cutIn, roomAfter}
+use Rattle.paging.specs.Paging.{writtenPage, writeRefusal, outAnswer, outBuffer}
+use Rattle.gateway.specs.Host.{hostReading, hostLayout, hostComponents, firstOf, under, lentAfter}
+use Rattle.gateway.specs.Host.{lookupNumber, homeAfter, backNumber, offsetAfter}
+use Rattle.gateway.specs.Host.{cutNumber, piecesAfter, countAfter, pageNumber, bufferAfter, writtenAfter}
+
+-- The layout of a collector that keeps the rules and is complete is valid.
+gathered-valid : (c : Collector) → Held c → c .complete ≡ true → valid (packed (c .layout .generation) (gathered c)) ≡ true
+gathered-valid c h e =
+    let g = c .layout .generation in
+    let few : length (gathered c) ≤ 16 = omega (arith, h .sound .whole, h .sound .few) in
+    let v : view (packed g (gathered c)) ≡ gathered c = view-pack g (gathered c) few in
+    let some : 1 ≤ length (gathered c) =
+    bool-cases (eqb (c .pages) 0)
+    (λ z. clash e (h .sound .unfinished (eqb-true (c .pages) 0 z)))
+    (λ z. let w = eqb-false (c .pages) 0 z in omega (arith, h .sound .whole, h .sound .within)) in
+    facts-valid (packed g (gathered c))
+    (record {
+      some = some;
+      few = few;
+      whole = ap length v;
+      keeps = rw v (keeps-facts false (gathered c) (rw e at (h .sound .kept)));
+    })
+
+-- A reading gives a layout that is valid, unless it is refused.
+abbrev Good : Reading → Type 0
+Good r = r .refusal ≡ 0 → valid (r .layout) ≡ true
+
+-- For any way to cut pages from bytes: so does a reading whose collector is complete,
+module _ (cut : List ℕ → Next) where
+  closed-valid : (c : Collector) (s : List ℕ) → Held c → c .complete ≡ true → Good (closed c s)
+  closed-valid c [] h e z = gathered-valid c h e
+  closed-valid c (b ∷ rest) h e z = absurd (omega arith)
+
+  -- one that wants more, where reading on does,
+  following-valid : (on : Collector → List ℕ → Reading) → ((d : Collector) (t : List ℕ) → Held d → Good (on d t))
+      → (c : Collector) → Held c → (n : Next) → Good (following on c n)
+  following-valid on f c h ended z = absurd (omega arith)
+  following-valid on f c h broken z = absurd (omega arith)
+  following-valid on f c h (next p rest) z =
+      let k = numberOf (openIn c p .answer) in
+      let y = rw (page-open c h p) at z in
+      rw (page-open c h p)
+      (bool-cases (eqb k 0)
+      (λ t. rw t (f (openIn c p .collector) rest (taken-held c h p (eqb-true k 0 t)) (rw t at y)))
+      (λ t. absurd (eqb-false k 0 t (rw t at y))))
+
+  -- and so one of either kind,
+  either-valid : (on : Collector → List ℕ → Reading) → ((d : Collector) (t : List ℕ) → Held d → Good (on d t))
+      → (c : Collector) (s : List ℕ) → Held c → (x : Bool) → c .complete ≡ x
+      → Good (cond x (closed c s) (following on c (cut s)))
+  either-valid on f c s h true e = closed-valid c s h e
+  either-valid on f c s h false e = following-valid on f c h (cut s)
+
+  on-valid : (left : ℕ) (c : Collector) (s : List ℕ) → Held c → Good (readOn cut left c s)
+  on-valid zero c s h = λ z. absurd (omega arith)
+  on-valid (suc left) c s h = either-valid (readOn cut left) (on-valid left) c s h (c .complete) refl
+
+  -- and the reading of a run.
+  pub run-valid : (s : List ℕ) → readRun cut s .refusal ≡ 0 → valid (readRun cut s .layout) ≡ true
+  unfolding readRun
+  run-valid s = on-valid 17 newCollector s new-held
+
+-- A layout that was read from the host's bytes is valid.
+pub host-valid : (s : List ℕ) → hostReading s .refusal ≡ 0 → valid (hostLayout s) ≡ true
+host-valid = run-valid hostCut
+
+-- Where the reading is not refused, the number is the call's own,
+under-read : (r : Reading) (n : ℕ) → r .refusal ≡ 0 → under r n ≡ n
+unfolding under
+under-read r n e = rw e
+
+-- and where it is, the reading's, which is not 0.
+first-refused : (m n : ℕ) → (m ≡ 0 → ⊥) → m ≡ firstOf m n
+first-refused zero n h = absurd (h refl)
+first-refused (suc m) n h = refl
+
+under-refused : (r : Reading) (n : ℕ) → (r .refusal ≡ 0 → ⊥) → r .refusal ≡ under r n
+unfolding under
+under-refused r n h = first-refused (r .refusal) n h
+
+-- Under the number of a refusal, all lent memory stays.
+lent-stays : {A : Type 0} (n : ℕ) (new lent : A) → (n ≡ 0 → ⊥) → lent ≡ lentAfter n new lent
+unfolding lentAfter
+lent-stays zero new lent h = absurd (h refl)
+lent-stays (suc n) new lent h = refl
+
+room-stays : (n : ℕ) (ps : List Piece) (room : List ℕ) → (n ≡ 0 → ⊥) → room ≡ roomAfter n ps room
+unfolding roomAfter
+room-stays zero ps room h = absurd (h refl)
+room-stays (suc n) ps room h = refl
+
+buffer-stays : (n : ℕ) (page buffer : List ℕ) → (n ≡ 0 → ⊥) → buffer ≡ outBuffer n page buffer
+unfolding outBuffer
+buffer-stays zero page buffer h = absurd (h refl)
+buffer-stays (suc n) page buffer h = refl
+
+-- Each call on bytes s where r is their reading and is refused: the number is that of the reading, and what was lent
+-- stays.
+module _ (s : List ℕ) (r : Reading) (e : r ≡ hostReading s) (h : r .refusal ≡ 0 → ⊥) where
+  first-number : (n : ℕ) → r .refusal ≡ under (hostReading s) n
+  first-number n = rw (← e) (under-refused r n h)
+
+  refused : (n : ℕ) → under (hostReading s) n ≡ 0 → ⊥
+  refused n z = h (first-number n ∙ z)
+
+  pub lookup-refused : (b : ℕ) (home : List ℕ) → (r .refusal ≡ lookupNumber s b) × (home ≡ homeAfter s b home)
+  unfolding lookupNumber homeAfter
+  lookup-refused b home =
+      let n = lookupRefusal b (hostComponents s) in
+      (first-number n, lent-stays (under (hostReading s) n) _ home (refused n))
+
+  pub back-refused : (a : Home) (offset : ℕ) → (r .refusal ≡ backNumber s a) × (offset ≡ offsetAfter s a offset)
+  unfolding backNumber offsetAfter
+  back-refused a offset =
+      let n = backRefusal a (hostComponents s) in
+      (first-number n, lent-stays (under (hostReading s) n) _ offset (refused n))
+
+  pub cut-refused : (a m : ℕ) (room : List ℕ) (count : ℕ) → (r .refusal ≡ cutNumber s a m room)
+      × (room ≡ piecesAfter s a m room) × (count ≡ countAfter s a m room count)
+  unfolding cutNumber piecesAfter countAfter
+  cut-refused a m room count =
+      let n = cutRefusal a m (length room) (hostComponents s) in (
+        first-number n,
+        room-stays (under (hostReading s) n) _ room (refused n),
+        lent-stays (under (hostReading s) n) _ count (refused n),
+      )
+
+  pub page-refused : (k : ℕ) (buffer : List ℕ) (written : ℕ) → (r .refusal ≡ pageNumber s k buffer)
+      × (buffer ≡ bufferAfter s k buffer) × (written ≡ writtenAfter s k buffer written)
+  unfolding pageNumber bufferAfter writtenAfter
+  page-refused k buffer written =
+      let n = writeRefusal (hostLayout s) k (length buffer) in (
+        first-number n,
+        buffer-stays (under (hostReading s) n) _ buffer (refused n),
+        lent-stays (under (hostReading s) n) _ written (refused n),
+      )
+
+-- Each call on bytes s where r is their reading and is not refused: the layout is valid, and the number is that of the
+-- library's call on a valid layout.
+module _ (s : List ℕ) (r : Reading) (e : r ≡ hostReading s) (z : r .refusal ≡ 0) where
+  own-number : (n : ℕ) → under (hostReading s) n ≡ n
+  own-number n = rw (← e) (under-read r n z)
+
+  pub read-valid : valid (r .layout) ≡ true
+  read-valid = rw e (host-valid s (rw e at z))
+
+  pub lookup-read : (b : ℕ) → lookupIn b (view (r .layout)) ≡ answer (lookupNumber s b) (homeOf b (hostComponents s))
+  unfolding lookupIn lookupNumber
+  lookup-read b = rw (own-number (lookupRefusal b (hostComponents s)), e)
+
+  pub back-read : (a : Home) → backIn a (view (r .layout)) ≡ answer (backNumber s a) (byteOf a (hostComponents s))
+  unfolding backIn backNumber
+  back-read a = rw (own-number (backRefusal a (hostComponents s)), e)
+
+  pub cut-read : (a m : ℕ) (room : List ℕ)
+      → (cutIn a m (length room) (view (r .layout)) ≡ answer (cutNumber s a m room) (cutCount a m (hostComponents s)))
+      × (roomAfter (cutRefusal a m (length room) (view (r .layout))) (cutPieces a m (view (r .layout))) room
+      ≡ piecesAfter s a m room)
+  unfolding cutIn cutNumber piecesAfter
+  cut-read a m room =
+      rw (own-number (cutRefusal a m (length room) (hostComponents s)), e) (refl, refl)
+
+  pub page-read : (k : ℕ) (buffer : List ℕ) → let n = writeRefusal (r .layout) k (length buffer) in
+      let page = writtenPage (r .layout) k in
+      (outAnswer n page ≡ outAnswer (pageNumber s k buffer) (writtenPage (hostLayout s) k))
+      × (outBuffer n page buffer ≡ bufferAfter s k buffer)
+  unfolding pageNumber bufferAfter
+  page-read k buffer = rw (own-number (writeRefusal (hostLayout s) k (length buffer)), e) (refl, refl)

@@ -43,44 +43,48 @@ unfoldable pub lentAfter : {A : Type 0} → ℕ → A → A → A
 lentAfter zero new lent = new
 lentAfter (suc n) new lent = lent
 
--- The numbers of a home: the target and the number of the object, and the byte of it. A lookup that is not refused has
--- a home.
+-- The numbers of a home: the target and the number of the object, and the byte of it. Where lookup is not refused there
+-- is a home.
 abbrev pub homeNumbers : Option Home → List ℕ
 homeNumbers none = []
 homeNumbers (some (inObject o p)) = o .target ∷ o .number ∷ p ∷ []
 
--- Lookup of byte b: the number, and the lent home afterwards.
+-- Lookup of byte b (10, 11): the number,
 unfoldable pub lookupNumber : List ℕ → ℕ → ℕ
 lookupNumber s b = under (hostReading s) (lookupRefusal b (hostComponents s))
 
+-- and the lent home afterwards: the numbers of the byte's home.
 unfoldable pub homeAfter : List ℕ → ℕ → List ℕ → List ℕ
 homeAfter s b home = lentAfter (lookupNumber s b) (homeNumbers (homeOf b (hostComponents s))) home
 
--- Back from a home: the number, and the lent offset afterwards.
+-- Back from a home (13, 14): the number,
 unfoldable pub backNumber : List ℕ → Home → ℕ
 backNumber s h = under (hostReading s) (backRefusal h (hostComponents s))
 
+-- and the lent offset afterwards: the file byte of the home.
 unfoldable pub offsetAfter : List ℕ → Home → ℕ → ℕ
 offsetAfter s h offset = lentAfter (backNumber s h) (byteOf h (hostComponents s)) offset
 
--- The request of m bytes from offset a cut into the lent numbers `room`: the number, and the room and the lent count
--- afterwards.
+-- The request of m bytes from offset a, cut into the lent numbers `room` (9 to 12): the number,
 unfoldable pub cutNumber : List ℕ → ℕ → ℕ → List ℕ → ℕ
 cutNumber s a m room = under (hostReading s) (cutRefusal a m (length room) (hostComponents s))
 
+-- the room afterwards: the pieces in the first of the numbers, five numbers a piece,
 unfoldable pub piecesAfter : List ℕ → ℕ → ℕ → List ℕ → List ℕ
 piecesAfter s a m room = roomAfter (cutNumber s a m room) (cutPieces a m (hostComponents s)) room
 
+-- and the lent count afterwards: how many pieces there are.
 unfoldable pub countAfter : List ℕ → ℕ → ℕ → List ℕ → ℕ → ℕ
 countAfter s a m room count = lentAfter (cutNumber s a m room) (cutCount a m (hostComponents s)) count
 
--- Page k of the layout, written into the lent bytes `buffer`: the number, and the buffer and the lent number of bytes
--- afterwards.
+-- Page k of the layout, written into the lent bytes `buffer` (4, 20): the number,
 unfoldable pub pageNumber : List ℕ → ℕ → List ℕ → ℕ
 pageNumber s k buffer = under (hostReading s) (writeRefusal (hostLayout s) k (length buffer))
 
+-- the buffer afterwards: the page in its first bytes,
 unfoldable pub bufferAfter : List ℕ → ℕ → List ℕ → List ℕ
 bufferAfter s k buffer = outBuffer (pageNumber s k buffer) (writtenPage (hostLayout s) k) buffer
 
+-- and the lent number of bytes afterwards: how many the page has.
 unfoldable pub writtenAfter : List ℕ → ℕ → List ℕ → ℕ → ℕ
 writtenAfter s k buffer written = lentAfter (pageNumber s k buffer) (length (writtenPage (hostLayout s) k)) written

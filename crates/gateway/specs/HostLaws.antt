@@ -22,10 +22,10 @@ use Rattle.collector.specs.RunLaws.{Held, page-open, taken-held, new-held}
 use Rattle.mapping.specs.declared.Piece.{Piece}
 use Rattle.mapping.specs.Answers.{answer}
 use Rattle.mapping.specs.Homes.{Home, homeOf}
-use Rattle.mapping.specs.Lookup.{lookupRefusal, lookupIn}
-use Rattle.mapping.specs.Back.{backRefusal, byteOf, backIn}
-use Rattle.mapping.specs.Cutting.{cutRefusal, cutPieces, cutCount, cutIn, roomAfter}
-use Rattle.paging.specs.Paging.{writtenPage, writeRefusal, outAnswer, outBuffer}
+use Rattle.mapping.specs.Lookup.{lookupRefusal, lookupIn, lookupOf}
+use Rattle.mapping.specs.Back.{backRefusal, byteOf, backIn, backOf}
+use Rattle.mapping.specs.Cutting.{cutRefusal, cutPieces, cutCount, cutIn, cutOf, roomAfter}
+use Rattle.paging.specs.Paging.{writtenPage, writeRefusal, outRefusal, outAnswer, outBuffer}
 use Rattle.gateway.specs.Host.{hostReading, hostLayout, hostComponents, firstOf, under, lentAfter}
 use Rattle.gateway.specs.Host.{lookupNumber, homeAfter, backNumber, offsetAfter}
 use Rattle.gateway.specs.Host.{cutNumber, piecesAfter, countAfter, pageNumber, bufferAfter, writtenAfter}
@@ -91,12 +91,7 @@ module _ (cut : List ℕ → Next) where
 pub host-valid : (s : List ℕ) → hostReading s .refusal ≡ 0 → valid (hostLayout s) ≡ true
 host-valid = run-valid hostCut
 
--- Where the reading is not refused, the number is the call's own,
-under-read : (r : Reading) (n : ℕ) → r .refusal ≡ 0 → under r n ≡ n
-unfolding under
-under-read r n e = rw e
-
--- and where it is, the reading's, which is not 0.
+-- Where the reading is refused, the number is the reading's,
 first-refused : (m n : ℕ) → (m ≡ 0 → ⊥) → m ≡ firstOf m n
 first-refused zero n h = absurd (h refl)
 first-refused (suc m) n h = refl
@@ -104,6 +99,11 @@ first-refused (suc m) n h = refl
 under-refused : (r : Reading) (n : ℕ) → (r .refusal ≡ 0 → ⊥) → r .refusal ≡ under r n
 unfolding under
 under-refused r n h = first-refused (r .refusal) n h
+
+-- and where it is not, the call's own.
+under-read : (r : Reading) (n : ℕ) → r .refusal ≡ 0 → under r n ≡ n
+unfolding under
+under-read r n e = rw e
 
 -- Under the number of a refusal, all lent memory stays.
 lent-stays : {A : Type 0} (n : ℕ) (new lent : A) → (n ≡ 0 → ⊥) → lent ≡ lentAfter n new lent
@@ -180,16 +180,44 @@ module _ (s : List ℕ) (r : Reading) (e : r ≡ hostReading s) (z : r .refusal 
   back-read a = rw (own-number (backRefusal a (hostComponents s)), e)
 
   pub cut-read : (a m : ℕ) (room : List ℕ)
-      → (cutIn a m (length room) (view (r .layout)) ≡ answer (cutNumber s a m room) (cutCount a m (hostComponents s)))
-      × (roomAfter (cutRefusal a m (length room) (view (r .layout))) (cutPieces a m (view (r .layout))) room
-      ≡ piecesAfter s a m room)
-  unfolding cutIn cutNumber piecesAfter
-  cut-read a m room =
-      rw (own-number (cutRefusal a m (length room) (hostComponents s)), e) (refl, refl)
+      → cutIn a m (length room) (view (r .layout)) ≡ answer (cutNumber s a m room) (cutCount a m (hostComponents s))
+  unfolding cutIn cutNumber
+  cut-read a m room = rw (own-number (cutRefusal a m (length room) (hostComponents s)), e)
 
-  pub page-read : (k : ℕ) (buffer : List ℕ) → let n = writeRefusal (r .layout) k (length buffer) in
-      let page = writtenPage (r .layout) k in
-      (outAnswer n page ≡ outAnswer (pageNumber s k buffer) (writtenPage (hostLayout s) k))
-      × (outBuffer n page buffer ≡ bufferAfter s k buffer)
+  pub room-read : (a m : ℕ) (room out : List ℕ)
+      → (let cs = view (r .layout) in out ≡ roomAfter (cutRefusal a m (length room) cs) (cutPieces a m cs) room)
+      → out ≡ piecesAfter s a m room
+  unfolding cutNumber piecesAfter
+  room-read a m room out o = o ∙ rw (own-number (cutRefusal a m (length room) (hostComponents s)), e)
+
+  pub page-read : (k : ℕ) (buffer : List ℕ) → outAnswer (writeRefusal (r .layout) k (length buffer)) (writtenPage (r .layout) k)
+      ≡ outAnswer (pageNumber s k buffer) (writtenPage (hostLayout s) k)
+  unfolding pageNumber
+  page-read k buffer = rw (own-number (writeRefusal (hostLayout s) k (length buffer)), e)
+
+  pub buffer-read : (k : ℕ) (buffer out : List ℕ)
+      → out ≡ outBuffer (writeRefusal (r .layout) k (length buffer)) (writtenPage (r .layout) k) buffer
+      → out ≡ bufferAfter s k buffer
   unfolding pageNumber bufferAfter
-  page-read k buffer = rw (own-number (writeRefusal (hostLayout s) k (length buffer)), e) (refl, refl)
+  buffer-read k buffer out o = o ∙ rw (own-number (writeRefusal (hostLayout s) k (length buffer)), e)
+
+-- Where the bytes s are read without a refusal, each call answers as the library's call of that name does of the layout
+-- that was read.
+module _ (s : List ℕ) (z : hostReading s .refusal ≡ 0) where
+  pub lookup-same : (b : ℕ) → lookupOf b (hostLayout s) ≡ answer (lookupNumber s b) (homeOf b (hostComponents s))
+  unfolding lookupOf lookupIn
+  lookup-same b = rw (host-valid s z) (lookup-read s (hostReading s) refl z b)
+
+  pub back-same : (h : Home) → backOf h (hostLayout s) ≡ answer (backNumber s h) (byteOf h (hostComponents s))
+  unfolding backOf backIn
+  back-same h = rw (host-valid s z) (back-read s (hostReading s) refl z h)
+
+  pub cut-same : (a m : ℕ) (room : List ℕ)
+      → cutOf a m (length room) (hostLayout s) ≡ answer (cutNumber s a m room) (cutCount a m (hostComponents s))
+  unfolding cutOf cutIn
+  cut-same a m room = rw (host-valid s z) (cut-read s (hostReading s) refl z a m room)
+
+  pub page-same : (k : ℕ) (buffer : List ℕ) → outRefusal (hostLayout s) k (length buffer) ≡ pageNumber s k buffer
+  unfolding outRefusal pageNumber
+  page-same k buffer =
+      rw (host-valid s z) (sym (under-read (hostReading s) (writeRefusal (hostLayout s) k (length buffer)) z))

@@ -1,12 +1,12 @@
 -- `gateway::moorsickle_page` meets its contract: a refusal of the reading comes first; else the layout that was read is
 -- valid, `write_page` writes the page, and its number of bytes is stored.
-use mathlib.Core.Path.{_∙_}
+use mathlib.Core.Path.{_≡_, _∙_}
 use native.Mathlib.Omega.{arith}
 use denote.Ref.{now}
 use borrow.Author.Needs.{needs}
 use Rattle.paging.specs.Paging.{writtenPage}
 use Rattle.gateway.specs.Host.{hostLayout, pageNumber, writtenAfter}
-use Rattle.gateway.specs.HostLaws.{page-refused, read-valid, page-read}
+use Rattle.gateway.specs.HostLaws.{page-refused, read-valid, page-read, buffer-read}
 use Rattle.gateway.proofs.moorsickle_page.Statement.{statement}
 use Rattle.gateway.proofs.moorsickle_page.Tie as tie
 
@@ -30,10 +30,13 @@ returns-2 c =
     let a = w .before .before .before .before .before .before .before .args in
     let s = now (a .pages) in
     let buffer = now (a .buffer) in
-    let read = page-read s (r .result) (r .ensures) (omega arith) (a .number) buffer in
+    let z : r .result .refusal ≡ 0 = omega arith in
     let stored = c .put-written .ensures (pageNumber s (a .number) buffer) (writtenPage (hostLayout s) (a .number))
-    (w .write-page .ensures .0 ∙ read .0) in
-    (stored .0, w .write-page .ensures .1 ∙ read .1, stored .1)
+    (w .write-page .ensures .0 ∙ page-read s (r .result) (r .ensures) z (a .number) buffer) in (
+      stored .0,
+      buffer-read s (r .result) (r .ensures) z (a .number) buffer _ (w .write-page .ensures .1),
+      stored .1,
+    )
 
 pub moorsickle-page-spec : {M : Type 1} → statement M
 moorsickle-page-spec =

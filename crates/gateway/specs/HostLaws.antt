@@ -1,6 +1,6 @@
 -- Laws of the host's calls: a layout that was read is valid; what the numbers are by the reading; and that the calls give
 -- what the library's calls give of the layout that was read.
-use Prim.Native.Nat.{ℕ, zero, suc, _≤_, _<_}
+use Prim.Native.Nat.{ℕ, zero, suc, _≤_}
 use mathlib.Core.Path.{_≡_, refl, sym, ap, _∙_}
 use mathlib.Core.List.{List, [], _∷_}
 use mathlib.Core.Bool.{Bool, true, false, cond}
@@ -16,7 +16,7 @@ use Rattle.layout.specs.FactLaws.{keeps-facts, facts-valid}
 use Rattle.collector.specs.declared.Collector.{Collector}
 use Rattle.collector.specs.declared.Reading.{Reading}
 use Rattle.collector.specs.Collector.{newCollector, gathered}
-use Rattle.collector.specs.Taking.{numberOf, pageIn, openIn}
+use Rattle.collector.specs.Taking.{numberOf, openIn}
 use Rattle.collector.specs.Runs.{Next, ended, broken, next, closed, following, readOn, readRun, hostCut}
 use Rattle.collector.specs.RunLaws.{Held, page-open, taken-held, new-held}
 use Rattle.mapping.specs.declared.Piece.{Piece}
@@ -48,30 +48,30 @@ gathered-valid c h e =
       keeps = rw v (keeps-facts false (gathered c) (rw e at (h .sound .kept)));
     })
 
--- A reading gives a layout that is valid, unless it is refused.
+-- A reading that is not refused gives a valid layout.
 abbrev Good : Reading → Type 0
 Good r = r .refusal ≡ 0 → valid (r .layout) ≡ true
 
--- For any way to cut pages from bytes: so does a reading whose collector is complete,
+-- That holds of a reading whose collector keeps the rules and is complete,
+closed-valid : (c : Collector) (s : List ℕ) → Held c → c .complete ≡ true → Good (closed c s)
+closed-valid c [] h e z = gathered-valid c h e
+closed-valid c (b ∷ rest) h e z = absurd (omega arith)
+
+-- and of one whose collector keeps the rules and wants more, where it holds of reading on.
+following-valid : (on : Collector → List ℕ → Reading) → ((d : Collector) (t : List ℕ) → Held d → Good (on d t))
+    → (c : Collector) → Held c → (n : Next) → Good (following on c n)
+following-valid on f c h ended z = absurd (omega arith)
+following-valid on f c h broken z = absurd (omega arith)
+following-valid on f c h (next p rest) z =
+    let k = numberOf (openIn c p .answer) in
+    let y = rw (page-open c h p) at z in
+    rw (page-open c h p)
+    (bool-cases (eqb k 0)
+    (λ t. rw t (f (openIn c p .collector) rest (taken-held c h p (eqb-true k 0 t)) (rw t at y)))
+    (λ t. absurd (eqb-false k 0 t (rw t at y))))
+
+-- So, for any way to cut pages from bytes, it holds of reading on from any collector that keeps the rules,
 module _ (cut : List ℕ → Next) where
-  closed-valid : (c : Collector) (s : List ℕ) → Held c → c .complete ≡ true → Good (closed c s)
-  closed-valid c [] h e z = gathered-valid c h e
-  closed-valid c (b ∷ rest) h e z = absurd (omega arith)
-
-  -- one that wants more, where reading on does,
-  following-valid : (on : Collector → List ℕ → Reading) → ((d : Collector) (t : List ℕ) → Held d → Good (on d t))
-      → (c : Collector) → Held c → (n : Next) → Good (following on c n)
-  following-valid on f c h ended z = absurd (omega arith)
-  following-valid on f c h broken z = absurd (omega arith)
-  following-valid on f c h (next p rest) z =
-      let k = numberOf (openIn c p .answer) in
-      let y = rw (page-open c h p) at z in
-      rw (page-open c h p)
-      (bool-cases (eqb k 0)
-      (λ t. rw t (f (openIn c p .collector) rest (taken-held c h p (eqb-true k 0 t)) (rw t at y)))
-      (λ t. absurd (eqb-false k 0 t (rw t at y))))
-
-  -- and so one of either kind,
   either-valid : (on : Collector → List ℕ → Reading) → ((d : Collector) (t : List ℕ) → Held d → Good (on d t))
       → (c : Collector) (s : List ℕ) → Held c → (x : Bool) → c .complete ≡ x
       → Good (cond x (closed c s) (following on c (cut s)))
@@ -82,7 +82,7 @@ module _ (cut : List ℕ → Next) where
   on-valid zero c s h = λ z. absurd (omega arith)
   on-valid (suc left) c s h = either-valid (readOn cut left) (on-valid left) c s h (c .complete) refl
 
-  -- and the reading of a run.
+  -- and of the reading of a run.
   pub run-valid : (s : List ℕ) → readRun cut s .refusal ≡ 0 → valid (readRun cut s .layout) ≡ true
   unfolding readRun
   run-valid s = on-valid 17 newCollector s new-held
@@ -124,6 +124,7 @@ buffer-stays (suc n) page buffer h = refl
 -- Each call on bytes s where r is their reading and is refused: the number is that of the reading, and what was lent
 -- stays.
 module _ (s : List ℕ) (r : Reading) (e : r ≡ hostReading s) (h : r .refusal ≡ 0 → ⊥) where
+  -- The number, and that it is not 0, whatever the call's own number n.
   first-number : (n : ℕ) → r .refusal ≡ under (hostReading s) n
   first-number n = rw (← e) (under-refused r n h)
 
@@ -165,6 +166,7 @@ module _ (s : List ℕ) (r : Reading) (e : r ≡ hostReading s) (h : r .refusal 
 -- Each call on bytes s where r is their reading and is not refused: the layout is valid, and the number is that of the
 -- library's call on a valid layout.
 module _ (s : List ℕ) (r : Reading) (e : r ≡ hostReading s) (z : r .refusal ≡ 0) where
+  -- The number is the call's own.
   own-number : (n : ℕ) → under (hostReading s) n ≡ n
   own-number n = rw (← e) (under-read r n z)
 

@@ -1,8 +1,8 @@
 // The entry points for C, over the bytes of a layout's pages and plain numbers. The pages stand back to back, each
 // ending after the records that its head counts. In C a slice is a pointer and a length, the pointer first.
 //
-// Every call returns 0, or the number of a refusal; it then stores nothing. A refusal of the reading of the pages comes
-// first, by one of these numbers:
+// Every call returns 0, or the number of a refusal; a call that is refused stores nothing. A refusal of the reading of
+// the pages comes first, by one of these numbers:
 //  1 the bytes end with pages outstanding;
 //  2 bytes stand behind the last page;
 //  3 a page is not of the form of a page;

@@ -96,12 +96,12 @@ first-refused : (m n : ℕ) → (m ≡ 0 → ⊥) → m ≡ firstOf m n
 first-refused zero n h = absurd (h refl)
 first-refused (suc m) n h = refl
 
-under-refused : (r : Reading) (n : ℕ) → (r .refusal ≡ 0 → ⊥) → r .refusal ≡ under r n
+pub under-refused : (r : Reading) (n : ℕ) → (r .refusal ≡ 0 → ⊥) → r .refusal ≡ under r n
 unfolding under
 under-refused r n h = first-refused (r .refusal) n h
 
 -- and where it is not, the call's own.
-under-read : (r : Reading) (n : ℕ) → r .refusal ≡ 0 → under r n ≡ n
+pub under-read : (r : Reading) (n : ℕ) → r .refusal ≡ 0 → under r n ≡ n
 unfolding under
 under-read r n e = rw e
 

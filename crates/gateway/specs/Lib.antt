@@ -1,2 +1,7 @@
 pub mod Host
 pub mod HostLaws
+pub mod HostGrowth
+pub mod LentWords
+pub mod WordLaws
+pub mod PageRunLaws
+pub mod HostGrowthLaws

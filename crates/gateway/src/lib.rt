@@ -17,6 +17,7 @@ ghost use Rattle.mapping.specs.Homes.{inObject};
 ghost use Rattle.gateway.specs.Host.{lookupNumber, homeAfter, backNumber, offsetAfter};
 ghost use Rattle.gateway.specs.Host.{cutNumber, piecesAfter, countAfter, pageNumber, bufferAfter, writtenAfter};
 
+pub mod growing;
 mod lent;
 
 // The home of the file byte at `offset`: `home` receives the target and the number of the object and the byte of that

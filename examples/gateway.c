@@ -29,7 +29,7 @@
 /* A layout, as its pages back to back. No layout has more bytes of pages. */
 struct layout {
     size_t length;
-    uint8_t pages[MOORSICKLE_MAX_PAGES];
+    uint8_t pages[MOORSICKLE_MAX_LAYOUT_BYTES];
 };
 
 /* The free table: target, free bytes, number of the next object. A real gateway asks the store for it. */
@@ -117,7 +117,7 @@ static uint64_t first_without_home(const struct layout *l, uint64_t offset, uint
  * made for the request. */
 static uint32_t grow_for(struct layout *l, uint64_t byte, uint64_t low_mark, int *steps)
 {
-    uint8_t grown[MOORSICKLE_MAX_PAGES];
+    uint8_t grown[MOORSICKLE_MAX_LAYOUT_BYTES];
     struct moorsickle_growth answer = {0, 0};
     while (!answer.has_home) {
         uint32_t refusal;

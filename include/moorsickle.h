@@ -182,7 +182,7 @@ uint32_t moorsickle_cut(const uint8_t *pages, size_t pages_len, uint64_t offset,
 
 /* Writes page `number` of the layout to the first bytes of `buffer`, and its length to `*written`. The bytes after it
  * stay. The page is cut by the writer's rule, whatever the paging of `pages`: a component goes into the current page if
- * it fits in 512 bytes, else it starts the next. No page needs more than MOORSICKLE_MAX_PAGE_BYTES bytes. Pages are numbered
+ * it fits in 512 bytes, else it starts the next. No page needs more than MOORSICKLE_MAX_PAGE_BYTES. Pages are numbered
  * from 0 without gaps.
  * Refusals: 1 to 8 of the pages; 4 where the layout has no page of this number; 20. Once a page has been written, 4 can
  * only mean the second. */
@@ -196,7 +196,7 @@ uint32_t moorsickle_page(const uint8_t *pages, size_t pages_len, uint64_t number
  * Writes the pages of the layout after the step to the first bytes of `grown`, back to back and cut by the writer's
  * rule; and to `answer` their length, and 1 if the file byte has a home now, else 0. In the table, the next number of
  * each target that got a new object goes up by 1. Nothing else in `grown` and in the table changes. No layout needs
- * more than MOORSICKLE_MAX_LAYOUT_BYTES bytes. `pages` stays as it is: the caller goes on with what is in `grown`.
+ * more than MOORSICKLE_MAX_LAYOUT_BYTES. `pages` stays as it is: the caller goes on with what is in `grown`.
  * One step may not reach the file byte: call again, with the new pages. Bytes that have homes keep them. Where the byte
  * has a home already the layout does not change; each change adds 1 to its generation.
  * Refusals: 1 to 8 of the pages; 10; 15 where table_len is no multiple of 3, or there are more than 64 records, or

@@ -174,7 +174,7 @@ uint32_t moorsickle_back(const uint8_t *pages, size_t pages_len, uint32_t target
 /* Cuts the request for `length` bytes from `offset` into pieces, at every component border and every multiple of the
  * component's stripe size. Writes the number of pieces to `*count`, and the pieces in file order to the first numbers of
  * `room`, five numbers a piece: file offset, length, component id, stripe, object byte. The numbers after them stay. The
- * room is for room_len / 5 pieces, rounded down; no request needs more than MOORSICKLE_MAX_PIECES. Length 0 gives no
+ * room is for room_len / 5 pieces, rounded down; no request gets more than MOORSICKLE_MAX_PIECES. Length 0 gives no
  * pieces, wherever `offset` points.
  * Refusals: 1 to 8 of the pages; 9, 10, 11, 12. */
 uint32_t moorsickle_cut(const uint8_t *pages, size_t pages_len, uint64_t offset, uint64_t length, uint64_t *room,

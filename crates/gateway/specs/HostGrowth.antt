@@ -38,7 +38,7 @@ abbrev pub hostGrown : List ℕ → ℕ → ℕ → List ℕ → Outcome
 hostGrown pages offset mark words =
     growOf (hostLayout pages) (record { offset = offset; mark = mark; table = wordTable words })
 
--- The pages of a layout back to back: "grown receives the new layout's pages back to back by the writer's rule".
+-- The pages of a layout, by the writer's rule, back to back.
 abbrev pub pagesOf : Layout → List ℕ
 pagesOf l = backToBack (writtenPages l)
 

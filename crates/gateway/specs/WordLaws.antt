@@ -148,7 +148,7 @@ pub good-words : (ws : List ℕ) → tableOk (wordTable ws) ≡ true
     → (length (wordTable ws) ≤ 64) × (3 * length (wordTable ws) ≡ length ws)
 good-words ws e = let f = table-facts (wordTable ws) e in (f .0, three-words 0 ws (f .1))
 
--- "a length that is no multiple of 3 .. is 15": such words make a bad table.
+-- Words whose number is no multiple of 3 make a bad table.
 pub uneven-bad : (ws : List ℕ) → (length ws % 3 ≡ 0 → ⊥) → tableOk (wordTable ws) ≡ false
 uneven-bad ws h =
     bool-cases (tableOk (wordTable ws))
@@ -175,7 +175,7 @@ raised-words ok (suc s) (t ∷ f ∷ n ∷ ws) e =
     (λ q. rw q (ap (λ (l : List TargetRecord). raised r ∷ l) (raised-words ok s ws (omega arith))))
     (λ q. rw q (ap (λ (l : List TargetRecord). r ∷ l) (raised-words ok (suc s) ws (omega arith))))
 
--- Writing back record by record: one next number more,
+-- Writing back record by record: one next number more.
 next-word : (ws : List ℕ) (rs : List TargetRecord) (i : ℕ) → i < length rs → 3 * i + 2 < length ws
     → set (withNextWords ws (take i rs)) (3 * i + 2) (getD rs i noRecord .next) ≡ withNextWords ws (take (suc i) rs)
 next-word ws [] i h k = absurd (omega arith)
@@ -190,11 +190,3 @@ next-word (t ∷ f ∷ n ∷ ws) (r ∷ rs) (suc i) h k =
 pub words-next : (ws : List ℕ) (rs : List TargetRecord) (i : ℕ) → i < length rs → 3 * i + 2 < length ws
     → set (withNextWords ws (take i rs)) (3 * i + 2) (getD rs i noRecord .next) ≡ withNextWords ws (take (i + 1) rs)
 words-next ws rs i h k = rw (add-one i) (next-word ws rs i h k)
-
--- which leaves the words as many as they were.
-pub words-length : (ws : List ℕ) (rs : List TargetRecord) → length (withNextWords ws rs) ≡ length ws
-words-length ws [] = refl
-words-length [] (r ∷ rs) = refl
-words-length (t ∷ []) (r ∷ rs) = refl
-words-length (t ∷ f ∷ []) (r ∷ rs) = refl
-words-length (t ∷ f ∷ n ∷ ws) (r ∷ rs) = ap (λ (m : ℕ). suc (suc (suc m))) (words-length ws rs)

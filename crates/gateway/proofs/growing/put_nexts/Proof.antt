@@ -1,5 +1,5 @@
 -- `gateway::growing::put_nexts` meets its contract: behind turn i the words have the next numbers of the first i records.
-use Prim.Native.Nat.{ℕ, _+_, _*_, _-_, _≤_}
+use Prim.Native.Nat.{ℕ, _-_, _≤_}
 use mathlib.Core.Path.{_≡_, refl, ap, _∙_}
 use native.Mathlib.Omega.{arith}
 use lib.ListN.{length, take, length-set}
@@ -30,7 +30,7 @@ loop-again c =
     let i = p .loop .i in
     let e = words-next ws rs i (omega arith) (omega arith) in (
       omega arith,
-      length-set (p .loop .words) (3 * i + 2) (c .next-at .result) ∙ p .loop .inv .1,
+      simp length-set (p .loop .inv .1),
       rw (p .loop .inv .2, c .next-at .ensures) e,
     )
 

@@ -15,7 +15,7 @@ const NO_OBJECT: Object = Object {
 };
 
 // The object record at the place.
-fn object_at(s: &[u8], at: usize) -> Object
+pub fn object_at(s: &[u8], at: usize) -> Object
     requires { ⌜ at + 16 ≤ length (now s) ⌝ }
     ensures { λ r. ⌜ r ≡ objectAt (now (s .entry)) at ⌝ }
 {
@@ -40,7 +40,7 @@ fn objects_at(s: &[u8], at: usize, n: usize) -> [Object; 16]
 }
 
 // The lower of 16 and n.
-fn at_most_16(n: usize) -> usize
+pub fn at_most_16(n: usize) -> usize
     ensures { λ r. ⌜ (r ≡ min 16 n) × (r ≤ 16) × (r ≤ n) ⌝ }
 {
     if n < 16 { n } else { 16 }

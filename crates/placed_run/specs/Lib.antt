@@ -1,0 +1,3 @@
+pub mod Placing
+pub mod ShiftLaws
+pub mod PlacingLaws

@@ -1,0 +1,30 @@
+-- What stands at a place of the bytes behind a position stands that much further in all bytes.
+use Prim.Native.Nat.{ℕ, _+_}
+use mathlib.Core.Path.{_≡_, refl, sym, ap, _∙_}
+use mathlib.Core.List.{List, [], _∷_, map}
+use lib.ListN.{drop}
+use lib.Seq.{drop-drop}
+use Rattle.layout.specs.declared.Component.{Component}
+use Rattle.page.specs.Form.{recordsAt, behind, counted, placesFrom}
+use Rattle.page.specs.Content.{componentAt, componentsOf}
+use Rattle.page.specs.PlaceLaws.{records-from, component-from}
+use Rattle.in_place.specs.Places.{componentsAt}
+use Rattle.placed_run.specs.Placing.{placesBehind}
+
+module _ (s : List ℕ) (base at : ℕ) where
+  pub records-shift : recordsAt s (base + at) ≡ recordsAt (drop base s) at
+  records-shift = rw (records-from s (base + at), records-from (drop base s) at, drop-drop at base s)
+
+  pub component-shift : componentAt s (base + at) ≡ componentAt (drop base s) at
+  component-shift = rw (component-from s (base + at), component-from (drop base s) at, drop-drop at base s)
+
+-- Components at places.
+components-shift : (s : List ℕ) (base : ℕ) (ps : List ℕ)
+    → componentsAt s (map (λ (p : ℕ). base + p) ps) ≡ map (componentAt (drop base s)) ps
+components-shift s base [] = refl
+components-shift s base (p ∷ ps) = rw (component-shift s base p, components-shift s base ps)
+
+-- The components at the places of the page that begins at a position are those of that page.
+pub placed-components : (s : List ℕ) (at : ℕ) → componentsAt s (placesBehind at (drop at s)) ≡ componentsOf (drop at s)
+unfolding componentsOf
+placed-components s at = components-shift s at (placesFrom (counted (drop at s)) (drop at s) 16)

@@ -1,0 +1,1 @@
+// Reads the host's pages in place.

@@ -93,7 +93,7 @@ pub fn is_sound(c: Collector) -> bool
 }
 
 // Refusal 4 does not apply: the page number is the next after the pages taken, and the generation that of page 0.
-fn is_next(pages: usize, generation: u32, h: Head) -> bool
+pub fn is_next(pages: usize, generation: u32, h: Head) -> bool
     ensures { λ r. ⌜ r ≡ isNext pages generation h ⌝ }
 {
     (h.number as usize == pages) & ((pages == 0) | (h.generation == generation))

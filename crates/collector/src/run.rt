@@ -45,7 +45,7 @@ fn finished(c: Collector) -> Reading
 }
 
 // The lower of 512 and n.
-fn at_most_512(n: usize) -> usize
+pub fn at_most_512(n: usize) -> usize
     ensures { λ r. ⌜ (r ≡ min 512 n) × (r ≤ 512) × (r ≤ n) ⌝ }
 {
     if n < 512 { n } else { 512 }

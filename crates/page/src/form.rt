@@ -14,7 +14,7 @@ fn object_form(s: &[u8], at: usize) -> bool
 }
 
 // Have the n object records from the place on their form?
-fn objects_form(s: &[u8], at: usize, n: usize) -> bool
+pub fn objects_form(s: &[u8], at: usize, n: usize) -> bool
     requires { ⌜ at + 16 * n ≤ length (now s) ⌝ }
     ensures { λ r. ⌜ r ≡ objectsForm n (now (s .entry)) at ⌝ }
 {
@@ -29,7 +29,7 @@ fn objects_form(s: &[u8], at: usize, n: usize) -> bool
 }
 
 // Has the component at the place its mark, and no flag but init and extension?
-fn component_marks(s: &[u8], at: usize) -> bool
+pub fn component_marks(s: &[u8], at: usize) -> bool
     requires { ⌜ at + 40 ≤ length (now s) ⌝ }
     ensures { λ r. ⌜ r ≡ componentMarks (now (s .entry)) at ⌝ }
 {
@@ -50,7 +50,7 @@ pub fn record_count(s: &[u8], at: usize) -> usize
 }
 
 // Has the head its form?
-fn head_form(s: &[u8]) -> bool
+pub fn head_form(s: &[u8]) -> bool
     requires { ⌜ 16 ≤ length (now s) ⌝ }
     ensures { λ r. ⌜ r ≡ headForm (now (s .entry)) ⌝ }
 {

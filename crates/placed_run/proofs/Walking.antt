@@ -3,7 +3,7 @@
 use Prim.Native.Nat.{ℕ, _+_, _-_, _≤_, _<_}
 use mathlib.Core.Path.{_≡_, refl, sym, ap, _∙_}
 use mathlib.Core.List.{List, map}
-use mathlib.Core.Bool.{true, false, cond}
+use mathlib.Core.Bool.{true, false}
 use native.Mathlib.Omega.{arith}
 use native.Mathlib.Nat.{sub-zero, add-zero}
 use lib.ListN.{length, set, take}
@@ -14,6 +14,7 @@ use Rattle.lists.specs.Slices.{sets-next}
 use Rattle.page.specs.Form.{behind, componentForm, componentsForm, placesFrom, endFrom, headForm, counted, pageEnd, formBy}
 use Rattle.page.proofs.Turns.{turn, done}
 use Rattle.placed_run.specs.Placing.{placesBehind}
+use Rattle.placed_run.specs.Walks.{Walks}
 
 -- Places counted from `base` bytes before the page.
 abbrev pub shifted : ℕ → List ℕ → List ℕ
@@ -60,13 +61,6 @@ module _ (s : List ℕ) (n i at : ℕ) where
 
     pub places-done : n ≤ i → sets places (m + i) (shifted base (placesFrom (n - i) s at)) ≡ places
     places-done h = rw (done n i h)
-
--- What the walk gives and leaves.
-abbrev pub Walks : ℕ → List ℕ → ℕ → ℕ → List ℕ → List ℕ → ℕ → Type 0
-Walks limit s base n before after r =
-    (r ≡ cond (formBy limit s) (pageEnd s) 0)
-    × (take n after ≡ take n before)
-    × (formBy limit s ≡ true → after ≡ sets before n (placesBehind base s))
 
 -- Where the page has not its form.
 pub walks-faulty : (limit : ℕ) (s : List ℕ) (base n : ℕ) (before after : List ℕ) → formBy limit s ≡ false

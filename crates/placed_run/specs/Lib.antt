@@ -1,3 +1,6 @@
 pub mod Placing
+pub mod Walks
+pub mod Progress
 pub mod ShiftLaws
 pub mod PlacingLaws
+pub mod NextLaws

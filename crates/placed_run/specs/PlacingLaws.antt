@@ -281,12 +281,12 @@ module _ (s : List ℕ) where
   light-faulty p e f = rw (e, f)
 
   -- The number by which the next page is refused in place, and the reading with it.
-  next-refused : (p : Placed) (n : ℕ) → nextRefusal s p ≡ n → 0 < n → placedNext s p ≡ refusedBy n p
+  pub next-refused : (p : Placed) (n : ℕ) → nextRefusal s p ≡ n → 0 < n → placedNext s p ≡ refusedBy n p
   unfolding placedNext
   next-refused p zero e h = absurd (omega arith)
   next-refused p (suc n) e h = ap (λ (k : ℕ). placedBy k s p) e
 
-  next-taken : (p : Placed) → nextRefusal s p ≡ 0 → placedNext s p ≡ withPage s p
+  pub next-taken : (p : Placed) → nextRefusal s p ≡ 0 → placedNext s p ≡ withPage s p
   unfolding placedNext
   next-taken p e = ap (λ (k : ℕ). placedBy k s p) e
 

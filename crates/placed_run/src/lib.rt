@@ -2,13 +2,22 @@
 // noted of a page is where its components stand in the bytes; no component is copied.
 use page::Head;
 ghost use mathlib.Core.Path.{_≡_};
-ghost use mathlib.Core.Bool.{true, cond};
 ghost use Prim.Native.Nat.{_+_, _^_, _≤_, _<_, min};
-ghost use lib.ListN.{length, take, drop, set};
-ghost use lib.Seq.{sets};
-ghost use Rattle.page.specs.Form.{pageEnd, formBy};
+ghost use lib.ListN.{length, drop, set};
 ghost use Rattle.page.specs.Content.{headOf};
-ghost use Rattle.placed_run.specs.Placing.{placesBehind};
+ghost use Rattle.placed_run.specs.Walks.{Walks};
+ghost use Rattle.placed_run.specs.Progress.{numbered};
+
+// How far a reading has come: the number of a refusal, or 0; where the next page begins; the number of pages taken; their
+// generation; whether more pages are wanted; and how many components the pages taken have.
+pub struct Progress {
+    pub refusal: u8,
+    pub at: usize,
+    pub pages: usize,
+    pub generation: u32,
+    pub more: bool,
+    pub count: usize,
+}
 
 // Stores a place at position i, where there is one.
 fn note(places: &mut [usize; 16], i: usize, place: usize)
@@ -29,10 +38,7 @@ fn walk_onto(s: &[u8], limit: usize, base: usize, n: usize, places: &mut [usize;
         × (base + length (now s) < 2 ^ 64)
         × (n ≤ 16)
         × (length (now places) ≡ 16) ⌝ }
-    ensures { λ r. ⌜ (r ≡ cond (formBy limit (now (s .entry))) (pageEnd (now (s .entry))) 0)
-        × (take n (now (places .exit)) ≡ take n (now (places .entry)))
-        × (formBy limit (now (s .entry)) ≡ true →
-        now (places .exit) ≡ sets (now (places .entry)) n (placesBehind base (now (s .entry)))) ⌝ }
+    ensures { λ r. ⌜ Walks limit (now (s .entry)) base n (now (places .entry)) (now (places .exit)) r ⌝ }
 {
     if limit < 16 {
         return 0;
@@ -62,4 +68,39 @@ fn walk_onto(s: &[u8], limit: usize, base: usize, n: usize, places: &mut [usize;
         i += 1;
     }
     at
+}
+
+// Walks over the page that begins at `at` and stores the places of its components from position n on, as far as there are
+// positions. Gives how many bytes the page has, or 0 where it has not its form: also where it would have more than 512.
+fn walk_next(s: &[u8], at: usize, n: usize, places: &mut [usize; 16]) -> usize
+    requires { ⌜ (at ≤ length (now s)) × (n ≤ 16) × (length (now places) ≡ 16) ⌝ }
+    ensures { λ r. ⌜ (let t = drop at (now (s .entry)) in
+        Walks (min 512 (length t)) t at n (now (places .entry)) (now (places .exit)) r) ⌝ }
+{
+    let rest = &s[at..];
+    let limit = collector::run::at_most_512(rest.len());
+    walk_onto(rest, limit, at, n, places)
+}
+
+// What the head of the page says that begins at `at`.
+fn head_next(s: &[u8], at: usize) -> Head
+    requires { ⌜ at + 16 ≤ length (now s) ⌝ }
+    ensures { λ r. ⌜ r ≡ headOf (drop at (now (s .entry))) ⌝ }
+{
+    let rest = &s[at..];
+    page::decode::head_of(rest)
+}
+
+// The same with the number of a refusal.
+fn refused(p: Progress, number: u8) -> Progress
+    ensures { λ r. ⌜ r ≡ numbered number p ⌝ }
+{
+    Progress {
+        refusal: number,
+        at: p.at,
+        pages: p.pages,
+        generation: p.generation,
+        more: p.more,
+        count: p.count,
+    }
 }

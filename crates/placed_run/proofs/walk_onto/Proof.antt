@@ -13,8 +13,9 @@ use Rattle.page.specs.Form.{endFrom, counted, pageEnd, formBy}
 use Rattle.page.specs.FormLaws.{component-of}
 use Rattle.page.proofs.Walking.{past-limit, marks-wrong, objects-wrong}
 use Rattle.placed_run.specs.Placing.{placesBehind}
+use Rattle.placed_run.specs.Walks.{Walks}
 use Rattle.placed_run.proofs.Walking.{shifted, form-short, form-headless, form-start, form-turn, form-fault, form-done}
-use Rattle.placed_run.proofs.Walking.{end-turn, end-done, places-turn, places-done, Walks, walks-faulty, walks-whole}
+use Rattle.placed_run.proofs.Walking.{end-turn, end-done, places-turn, places-done, walks-faulty, walks-whole}
 use borrow.Author.Needs.{needs}
 use Rattle.placed_run.proofs.walk_onto.Statement.{statement}
 use Rattle.placed_run.proofs.walk_onto.Tie as tie

@@ -1,3 +1,4 @@
 pub mod Places
 pub mod RecordLaws
 pub mod Joining
+pub mod SliceLaws

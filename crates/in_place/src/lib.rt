@@ -5,6 +5,9 @@ ghost use Prim.Native.Nat.{_≤_, min};
 ghost use lib.ListN.{length};
 ghost use Rattle.page.specs.Form.{recordsAt, behind};
 
+pub mod fields;
+pub mod neighbours;
+
 // The number of object records of the component at the place, at most 16.
 pub fn record_count(s: &[u8], at: usize) -> usize
     requires { ⌜ behind (now s) at ≤ length (now s) ⌝ }

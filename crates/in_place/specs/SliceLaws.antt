@@ -1,0 +1,31 @@
+-- The components at places, by the places: at a turn of a loop over them, and before its first.
+use Prim.Native.Nat.{ℕ, _+_, _-_, _≤_, _<_}
+use mathlib.Core.Path.{_≡_, refl, ap, _∙_}
+use mathlib.Core.List.{List, [], _∷_}
+use native.Mathlib.Omega.{arith}
+use lib.ListN.{length, getD, take}
+use lib.Seq.{slice}
+use Rattle.lists.specs.Tests.{after-append}
+use Rattle.lists.specs.Slices.{slice-next, slice-done, take-next, map-append}
+use Rattle.layout.specs.Records.{neighbourOf, neighboursOf}
+use Rattle.page.specs.Content.{componentAt}
+use Rattle.in_place.specs.Places.{componentsAt}
+use Rattle.in_place.specs.Joining.{noneBefore, latest, lastOf}
+
+module _ (s ps : List ℕ) where
+  -- The components from place i up to place n are the one at place i and those from place i + 1 on.
+  pub components-next : (n i : ℕ) → i < n → i < length ps
+      → componentsAt s (slice i n ps) ≡ componentAt s (getD ps i 0) ∷ componentsAt s (slice (i + 1) n ps)
+  components-next n i h k = rw (slice-next ps n i 0 h k)
+
+  -- From place n on there are none.
+  pub components-done : (n i : ℕ) → n ≤ i → componentsAt s (slice i n ps) ≡ []
+  components-done n i h = rw (slice-done ps n i h)
+
+  -- Directly before position i stands the component at the place before.
+  pub last-before : (i : ℕ) → 0 < i → i ≤ length ps
+      → lastOf noneBefore (neighboursOf (componentsAt s (take i ps))) ≡ neighbourOf (componentAt s (getD ps (i - 1) 0))
+  last-before i h k =
+      let e : i ≡ i - 1 + 1 = omega arith in
+      ap (λ (j : ℕ). lastOf noneBefore (neighboursOf (componentsAt s (take j ps)))) e
+      ∙ rw (take-next ps (i - 1) 0 (omega arith), map-append, map-append, after-append)

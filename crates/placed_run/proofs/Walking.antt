@@ -64,11 +64,11 @@ module _ (s : List ℕ) (n i at : ℕ) where
 
 -- Where the page has not its form.
 pub walks-faulty : (limit : ℕ) (s : List ℕ) (base n : ℕ) (before after : List ℕ) → formBy limit s ≡ false
-    → take n after ≡ take n before → Walks limit s base n before after 0
-walks-faulty limit s base n before after e k = (rw e, k, λ f. clash f e)
+    → take n after ≡ take n before → length after ≡ length before → Walks limit s base n before after 0
+walks-faulty limit s base n before after e k l = (rw e, k, l, λ f. clash f e)
 
 -- Where it has, and the walk ends at a place.
 pub walks-whole : (limit : ℕ) (s : List ℕ) (base n : ℕ) (before after : List ℕ) (at : ℕ) → formBy limit s ≡ true
-    → pageEnd s ≡ at → take n after ≡ take n before → after ≡ sets before n (placesBehind base s)
-    → Walks limit s base n before after at
-walks-whole limit s base n before after at e f k g = (rw e (sym f), k, λ h. g)
+    → pageEnd s ≡ at → take n after ≡ take n before → length after ≡ length before
+    → after ≡ sets before n (placesBehind base s) → Walks limit s base n before after at
+walks-whole limit s base n before after at e f k l g = (rw e (sym f), k, l, λ h. g)

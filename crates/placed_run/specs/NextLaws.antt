@@ -1,13 +1,13 @@
 -- The next page: the number of its refusal test by test, and what is known once it is refused or taken.
-use Prim.Native.Nat.{ℕ, _+_, _≤_, _<_, min}
+use Prim.Native.Nat.{ℕ, zero, suc, _+_, _-_, _≤_, _<_, min}
 use mathlib.Core.Path.{_≡_, refl, sym, ap, _∙_}
-use mathlib.Core.List.{List, _++_, map}
+use mathlib.Core.List.{List, [], _∷_, _++_, map, append-assoc}
 use mathlib.Core.Bool.{true, false}
 use native.Mathlib.Omega.{arith}
-use lib.Dec.{eqb, leb}
+use lib.Dec.{eqb, leb, ltb}
 use lib.ListN.{length, getD, take, drop, length-drop, length-map, length-append}
-use lib.Seq.{sets, slice, sets-eq, length-sets, length-take-le, getD-take, take-at, drop-append-seam, take-append-seam}
-use borrow.Author.Tests.{ne-eqb, eq-eqb, le-leb, lt-leb}
+use lib.Seq.{sets, slice, sets-eq, length-sets, length-take-le, getD-take, getD-append-add, take-at, drop-at}
+use borrow.Author.Tests.{ne-eqb, eq-eqb, le-leb, lt-leb, ltb-true, ltb-false}
 use Rattle.lists.specs.Bools.{bool-cases}
 use Rattle.page.specs.Form.{recordsAt, behind, counted, placesFrom, pageEnd, formBy}
 use Rattle.page.specs.Content.{headOf}
@@ -25,6 +25,11 @@ use Rattle.placed_run.specs.PlacingLaws.{next-refused, next-taken}
 same-first : (n i : ℕ) (xs ys : List ℕ) → take n xs ≡ take n ys → i < n → getD xs i 0 ≡ getD ys i 0
 same-first n i xs ys e h =
     sym (getD-take n xs i 0 h) ∙ ap (λ (l : List ℕ). getD l i 0) e ∙ getD-take n ys i 0 h
+
+getD-shift : (base : ℕ) (ps : List ℕ) (i : ℕ) → i < length ps → getD (map (λ (p : ℕ). base + p) ps) i 0 ≡ base + getD ps i 0
+getD-shift base [] i h = absurd (omega arith)
+getD-shift base (p ∷ ps) zero h = refl
+getD-shift base (p ∷ ps) (suc i) h = getD-shift base ps i (omega arith)
 
 module _ (s : List ℕ) (p : Progress) (places : List ℕ) (k : Kept s p places) where
   abbrev rest : List ℕ
@@ -102,3 +107,62 @@ module _ (s : List ℕ) (p : Progress) (places : List ℕ) (k : Kept s p places)
 
       stored : after ≡ take (p .count) places ++ new ++ drop (p .count + length new) places
       stored = sets-eq new places (p .count) (omega (arith, length-new, k .room))
+
+      first-length : length (take (p .count) places) ≡ p .count
+      first-length = length-take-le (p .count) places (omega (arith, k .few, k .room))
+
+      first-kept : take (p .count) after ≡ take (p .count) places
+      first-kept =
+          let behind-new = drop (p .count + length new) places in
+          rw (stored, append-assoc (take (p .count) places) new behind-new)
+          (take-at (take (p .count) places) (new ++ behind-new) (p .count) first-length)
+
+      -- The places of all components so far.
+      pub all-places : take (p .count + counted rest) after ≡ take (p .count) places ++ new
+      all-places =
+          let n : length (take (p .count) places ++ new) ≡ p .count + counted rest =
+          length-append (take (p .count) places) new ∙ omega (arith, first-length, length-new) in
+          rw stored
+          (take-at (take (p .count) places ++ new) (drop (p .count + length new) places) (p .count + counted rest) n)
+
+      -- Those of the page.
+      pub new-places : slice (p .count) (p .count + counted rest) after ≡ new
+      new-places = rw all-places (drop-at (take (p .count) places) new (p .count) first-length)
+
+      -- Each component of the page ends by the end of the bytes.
+      new-within : (i : ℕ) → i < counted rest → behind s (getD new i 0) ≤ length s
+      new-within i h =
+          let qs = placesFrom (counted rest) rest 16 in
+          let q = getD qs i 0 in
+          let lim = min 512 (length rest) in
+          let w = place-within (counted rest) lim rest 16 i (form-components lim rest f) h in
+          let r = records-shift s (p .at) q in
+          let e : getD new i 0 ≡ p .at + q = getD-shift (p .at) qs i (omega (arith, length-places (counted rest) rest 16)) in
+          rw (e, r) (omega (arith, length-drop (p .at) s, k .reached))
+
+      pub all-within : Within s (p .count + counted rest) after
+      all-within i h =
+          bool-cases (ltb i (p .count))
+          (λ e. let b : i < p .count = ltb-true i (p .count) e in
+          rw (same-first (p .count) i after places first-kept b) (k .within i b))
+          (λ e. let b : p .count ≤ i = ltb-false i (p .count) e in
+          let j = i - p .count in
+          let n : length (take (p .count) places) + j ≡ i = omega (arith, first-length) in
+          let x : getD after i 0 ≡ getD new j 0 =
+          sym (getD-take (p .count + counted rest) after i 0 h)
+          ∙ ap (λ (l : List ℕ). getD l i 0) all-places
+          ∙ ap (λ (m : ℕ). getD (take (p .count) places ++ new) m 0) (sym n)
+          ∙ getD-append-add (take (p .count) places) new j 0 in
+          rw x (new-within j (omega arith)))
+
+      -- What is known once the page is taken.
+      pub kept-taken : (q : Progress) → q .at ≡ p .at + pageEnd rest → q .pages ≡ p .pages + 1
+          → q .count ≡ p .count + counted rest → Kept s q after
+      kept-taken q at pages count =
+          record {
+            reached = omega (arith, page-within (min 512 (length rest)) rest f, length-drop (p .at) s, k .reached);
+            pages = omega (arith, k .pages, some-components (min 512 (length rest)) rest f);
+            few = omega arith;
+            room = length-sets places (p .count) new ∙ k .room;
+            within = rw count all-within;
+          }

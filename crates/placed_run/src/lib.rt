@@ -6,7 +6,8 @@ ghost use Prim.Native.Nat.{_+_, _^_, _≤_, _<_, min};
 ghost use lib.ListN.{length, drop, set};
 ghost use Rattle.page.specs.Content.{headOf};
 ghost use Rattle.placed_run.specs.Walks.{Walks};
-ghost use Rattle.placed_run.specs.Progress.{numbered};
+ghost use Rattle.placed_run.specs.Placing.{placedNext};
+ghost use Rattle.placed_run.specs.Progress.{placedOf, Kept, numbered};
 
 // How far a reading has come: the number of a refusal, or 0; where the next page begins; the number of pages taken; their
 // generation; whether more pages are wanted; and how many components the pages taken have.
@@ -102,5 +103,42 @@ fn refused(p: Progress, number: u8) -> Progress
         generation: p.generation,
         more: p.more,
         count: p.count,
+    }
+}
+
+// Takes the page that begins where the reading has come to. Refused by 1 where no bytes are left, by 3 to 5 as a collector
+// refuses it, and by 6 or 7 where its components break the rules of fields or of neighbours behind those taken before.
+fn take_next(s: &[u8], p: Progress, places: &mut [usize; 16]) -> Progress
+    requires { ⌜ Kept (now s) p (now places) ⌝ }
+    ensures { λ r. ⌜ (placedOf r (now (places .exit))
+        ≡ placedNext (now (s .entry)) (placedOf p (now (places .entry))))
+        × Kept (now (s .entry)) r (now (places .exit)) ⌝ }
+{
+    if s.len() <= p.at {
+        return refused(p, 1);
+    }
+    let bytes = walk_next(s, p.at, p.count, places);
+    if bytes == 0 {
+        return refused(p, 3);
+    }
+    let head = head_next(s, p.at);
+    if !collector::is_next(p.pages, p.generation, head) {
+        return refused(p, 4);
+    }
+    let to = p.count + head.count as usize;
+    if 16 < to {
+        return refused(p, 5);
+    }
+    let rule = in_place::neighbours::new_rule_broken(s, places, p.count, to, head.more);
+    if rule != 0 {
+        return refused(p, rule);
+    }
+    Progress {
+        refusal: 0,
+        at: p.at + bytes,
+        pages: p.pages + 1,
+        generation: head.generation,
+        more: head.more,
+        count: to,
     }
 }

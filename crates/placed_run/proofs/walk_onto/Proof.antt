@@ -38,7 +38,7 @@ returns : tie.Need-returns Inv-loop μ-loop
 returns c =
     let a = c .before .before .args in
     walks-faulty (a .limit) (now (a .s)) (a .base) (a .n) (now (a .places)) (now (a .places))
-    (form-short (a .limit) (now (a .s)) (c .if1 .taken)) refl
+    (form-short (a .limit) (now (a .s)) (c .if1 .taken)) refl refl
 
 returns-2 : tie.Need-returns-2 Inv-loop μ-loop
 returns-2 c =
@@ -46,7 +46,7 @@ returns-2 c =
     let a = b .before .before .before .args in
     let e = sym (b .head-form .ensures) ∙ not-true _ (c .if2 .taken) in
     walks-faulty (a .limit) (now (a .s)) (a .base) (a .n) (now (a .places)) (now (a .places))
-    (form-headless (a .limit) (now (a .s)) e (b .before .if1 .left)) refl
+    (form-headless (a .limit) (now (a .s)) e (b .before .if1 .left)) refl refl
 
 loop-holds : tie.Need-loop-holds Inv-loop μ-loop
 loop-holds c =
@@ -76,7 +76,7 @@ fault c e =
     let n = p .before .u16-at .result in
     let f = form-fault (a .limit) (now (a .s)) n (p .loop .i) (p .loop .at) (c .loop-test .taken) e in
     walks-faulty (a .limit) (now (a .s)) (a .base) (a .n) (now (a .places)) (p .loop .places)
-    (p .loop .inv .4 ∙ f) (p .loop .inv .6)
+    (p .loop .inv .4 ∙ f) (p .loop .inv .6) (p .loop .inv .3 ∙ sym (p .before .before .before .before .before .before .pre .4))
 
 -- Past the fourth test the component ends by the limit.
 within : (c : tie.Else4 Inv-loop μ-loop) →
@@ -163,6 +163,7 @@ returns-7 c =
     (p .loop .inv .4 ∙ form-done (a .limit) s n (p .loop .i) (p .loop .at) t)
     (p .loop .inv .5 ∙ end-done s n (p .loop .i) (p .loop .at) t)
     (p .loop .inv .6)
+    (p .loop .inv .3 ∙ sym (p .before .before .before .before .before .before .pre .4))
     (sym (p .loop .inv .7 ∙ places-done s n (p .loop .i) (p .loop .at) (a .base) (a .n) (p .loop .places) t))
 
 pub walk-onto-spec : {M : Type 1} → statement M

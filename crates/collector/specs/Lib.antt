@@ -5,5 +5,6 @@ pub mod Runs
 pub mod TakingLaws
 pub mod Sound
 pub mod RunLaws
+pub mod ValidRuns
 pub mod CutLaws
 pub mod CallLaws

@@ -3,4 +3,5 @@ pub mod Walks
 pub mod Progress
 pub mod ShiftLaws
 pub mod PlacingLaws
+pub mod TurnLaws
 pub mod NextLaws

@@ -58,7 +58,7 @@ distinct-first xs ys e =
 
 module _ (s : List ℕ) where
   -- A reading that wants no page stays as it is.
-  placed-stays : (left : ℕ) (p : Placed) → goesOn p ≡ false → placedOn left s p ≡ p
+  pub placed-stays : (left : ℕ) (p : Placed) → goesOn p ≡ false → placedOn left s p ≡ p
   placed-stays zero p e = refl
   placed-stays (suc left) p e = rw e
 

@@ -6,7 +6,7 @@ ghost use Prim.Native.Nat.{_+_, _^_, _≤_, _<_, min};
 ghost use lib.ListN.{length, drop, set};
 ghost use Rattle.page.specs.Content.{headOf};
 ghost use Rattle.placed_run.specs.Walks.{Walks};
-ghost use Rattle.placed_run.specs.Placing.{placedNext};
+ghost use Rattle.placed_run.specs.Placing.{placedNext, placedRun};
 ghost use Rattle.placed_run.specs.Progress.{placedOf, Kept, numbered};
 
 // How far a reading has come: the number of a refusal, or 0; where the next page begins; the number of pages taken; their
@@ -141,4 +141,24 @@ fn take_next(s: &[u8], p: Progress, places: &mut [usize; 16]) -> Progress
         more: head.more,
         count: to,
     }
+}
+
+// Reads the pages one after another until no more are wanted or one is refused.
+fn read_on(s: &[u8], places: &mut [usize; 16]) -> Progress
+    requires { ⌜ length (now places) ≡ 16 ⌝ }
+    ensures { λ r. ⌜ (placedOf r (now (places .exit)) ≡ placedRun (now (s .entry)))
+        × Kept (now (s .entry)) r (now (places .exit)) ⌝ }
+{
+    let mut p = Progress {
+        refusal: 0,
+        at: 0,
+        pages: 0,
+        generation: 0,
+        more: true,
+        count: 0,
+    };
+    while p.more & (p.refusal == 0) {
+        p = take_next(s, p, places);
+    }
+    p
 }

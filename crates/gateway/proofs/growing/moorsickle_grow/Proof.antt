@@ -9,7 +9,7 @@ use Rattle.growth_rules.specs.Growing.{Effect}
 use Rattle.growth_rules.specs.ValidityLaws.{grow-valid}
 use Rattle.gateway.specs.HostGrowth.{hostGrown, laterNumber, homeNumber}
 use Rattle.gateway.specs.LentWords.{StepSays}
-use Rattle.gateway.specs.HostLaws.{run-valid}
+use Rattle.collector.specs.ValidRuns.{run-valid}
 use Rattle.gateway.specs.HostGrowthLaws.{reading-refused, growth-refused, growth-accepted, results-given}
 use Rattle.gateway.proofs.growing.moorsickle_grow.Statement.{statement}
 use Rattle.gateway.proofs.growing.moorsickle_grow.Tie as tie

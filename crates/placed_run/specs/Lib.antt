@@ -5,3 +5,4 @@ pub mod ShiftLaws
 pub mod PlacingLaws
 pub mod TurnLaws
 pub mod NextLaws
+pub mod Found

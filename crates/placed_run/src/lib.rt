@@ -2,11 +2,12 @@
 // noted of a page is where its components stand in the bytes; no component is copied.
 use page::Head;
 ghost use mathlib.Core.Path.{_≡_};
-ghost use Prim.Native.Nat.{_+_, _^_, _≤_, _<_, min};
+ghost use mathlib.Core.List.{List};
+ghost use Prim.Native.Nat.{ℕ, _+_, _^_, _≤_, _<_, min};
 ghost use lib.ListN.{length, drop, set};
 ghost use Rattle.page.specs.Content.{headOf};
 ghost use Rattle.placed_run.specs.Walks.{Walks};
-ghost use Rattle.placed_run.specs.Placing.{placedNext, placedRun};
+ghost use Rattle.placed_run.specs.Placing.{placedNext, placedRun, endRefusal};
 ghost use Rattle.placed_run.specs.Progress.{placedOf, Kept, numbered};
 
 // How far a reading has come: the number of a refusal, or 0; where the next page begins; the number of pages taken; their
@@ -17,6 +18,14 @@ pub struct Progress {
     pub pages: usize,
     pub generation: u32,
     pub more: bool,
+    pub count: usize,
+}
+
+// What reading gives: 0, the generation, and the number of components, whose places then stand in the first positions; or the
+// number of the refusal.
+pub struct Found {
+    pub refusal: u8,
+    pub generation: u32,
     pub count: usize,
 }
 
@@ -161,4 +170,18 @@ fn read_on(s: &[u8], places: &mut [usize; 16]) -> Progress
         p = take_next(s, p, places);
     }
     p
+}
+
+// The number of the refusal of a reading that wants no more pages, or 0: that of a page, else 2 where bytes stand behind the last
+// page.
+fn end_refusal(s: &[u8], p: Progress) -> u8
+    ensures { λ r. ⌜ ((places : List ℕ) → r ≡ endRefusal (now (s .entry)) (placedOf p places)) ⌝ }
+{
+    if p.refusal != 0 {
+        return p.refusal;
+    }
+    if p.at < s.len() {
+        return 2;
+    }
+    0
 }

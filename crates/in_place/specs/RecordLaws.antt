@@ -51,3 +51,7 @@ module _ (s : List ℕ) (at : ℕ) where
   -- These are its object records.
   pub component-records : recordsOf (componentAt s at) ≡ recordsKept
   component-records = rw (component-count, component-objects) (taken (recordsAt s at))
+
+  -- There are as many as are kept.
+  pub records-length : length (recordsOf (componentAt s at)) ≡ min 16 (recordsAt s at)
+  records-length = ap length component-records ∙ length-objects-at (min 16 (recordsAt s at)) s (at + 40)

@@ -1,15 +1,17 @@
 -- The components at places, by the places: at a turn of a loop over them, and before its first.
-use Prim.Native.Nat.{ℕ, _+_, _-_, _≤_, _<_}
+use Prim.Native.Nat.{ℕ, _+_, _-_, _≤_, _<_, min}
 use mathlib.Core.Path.{_≡_, refl, ap, _∙_}
-use mathlib.Core.List.{List, [], _∷_}
+use mathlib.Core.List.{List, [], _∷_, _++_}
 use native.Mathlib.Omega.{arith}
-use lib.ListN.{length, getD, take}
-use lib.Seq.{slice}
+use lib.ListN.{length, getD, take, length-map, length-append}
+use lib.Seq.{slice, length-take-le}
 use Rattle.lists.specs.Tests.{after-append}
 use Rattle.lists.specs.Slices.{slice-next, slice-done, take-next, map-append}
-use Rattle.layout.specs.Records.{neighbourOf, neighboursOf}
+use Rattle.layout.specs.Records.{neighbourOf, neighboursOf, recordsOf, recordsIn}
+use Rattle.page.specs.Form.{recordsAt}
 use Rattle.page.specs.Content.{componentAt}
 use Rattle.in_place.specs.Places.{componentsAt}
+use Rattle.in_place.specs.RecordLaws.{records-length}
 use Rattle.in_place.specs.Joining.{noneBefore, latest, lastOf}
 
 module _ (s ps : List ℕ) where
@@ -21,6 +23,21 @@ module _ (s ps : List ℕ) where
   -- From place n on there are none.
   pub components-done : (n i : ℕ) → n ≤ i → componentsAt s (slice i n ps) ≡ []
   components-done n i h = rw (slice-done ps n i h)
+
+  module _ (n i : ℕ) (h : i < n) (k : i < length ps) where
+    -- Their object records are those of the component at place i and those of the rest,
+    pub records-next : recordsIn (componentsAt s (slice i n ps))
+        ≡ recordsOf (componentAt s (getD ps i 0)) ++ recordsIn (componentsAt s (slice (i + 1) n ps))
+    records-next = rw (components-next n i h k)
+
+    -- so many in all.
+    pub total-next : length (recordsIn (componentsAt s (slice i n ps)))
+        ≡ min 16 (recordsAt s (getD ps i 0)) + length (recordsIn (componentsAt s (slice (i + 1) n ps)))
+    total-next = rw (records-next, length-append, records-length s (getD ps i 0))
+
+  -- As many components as places, where there are n.
+  pub components-length : (n : ℕ) → n ≤ length ps → length (componentsAt s (take n ps)) ≡ n
+  components-length n h = length-map (take n ps) (componentAt s) ∙ length-take-le n ps h
 
   -- Directly before position i stands the component at the place before.
   pub last-before : (i : ℕ) → 0 < i → i ≤ length ps

@@ -5,8 +5,10 @@ ghost use Prim.Native.Nat.{_≤_, min};
 ghost use lib.ListN.{length};
 ghost use Rattle.page.specs.Form.{recordsAt, behind};
 
+pub mod distinct;
 pub mod fields;
 pub mod neighbours;
+pub mod whole;
 
 // The number of object records of the component at the place, at most 16.
 pub fn record_count(s: &[u8], at: usize) -> usize

@@ -31,7 +31,7 @@ pub fn neighbour_at(s: &[u8], at: usize) -> Neighbour
 }
 
 // Do the neighbour rules hold between a component and the one directly before it?
-pub fn joins(before: Neighbour, c: Neighbour) -> bool
+fn joins(before: Neighbour, c: Neighbour) -> bool
     ensures { λ r. ⌜ r ≡ joins before c ⌝ }
 {
     (c.begin == before.end)
@@ -41,7 +41,7 @@ pub fn joins(before: Neighbour, c: Neighbour) -> bool
 
 // What stands directly before the component at position i: the component at the place before, or, for the first, what
 // stands for none.
-pub fn before(s: &[u8], places: &[usize; 16], i: usize) -> Neighbour
+fn before(s: &[u8], places: &[usize; 16], i: usize) -> Neighbour
     requires { ⌜ (i ≤ 16) × Within (now s) i (now places) ⌝ }
     ensures { λ r. ⌜ r
         ≡ lastOf noneBefore (neighboursOf (componentsAt (now (s .entry)) (take i (now (places .entry))))) ⌝ }

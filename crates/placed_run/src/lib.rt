@@ -9,6 +9,7 @@ ghost use Rattle.page.specs.Content.{headOf};
 ghost use Rattle.placed_run.specs.Walks.{Walks};
 ghost use Rattle.placed_run.specs.Placing.{placedNext, placedRun, endRefusal};
 ghost use Rattle.placed_run.specs.Progress.{placedOf, Kept, numbered};
+ghost use Rattle.placed_run.specs.Found.{Finds};
 
 // How far a reading has come: the number of a refusal, or 0; where the next page begins; the number of pages taken; their
 // generation; whether more pages are wanted; and how many components the pages taken have.
@@ -184,4 +185,24 @@ fn end_refusal(s: &[u8], p: Progress) -> u8
         return 2;
     }
     0
+}
+
+// Reads the pages. 1 to 7 are asked page by page; distinctness, 8, once at the end, of the pages that were taken.
+pub fn read(s: &[u8], places: &mut [usize; 16]) -> Found
+    requires { ⌜ length (now places) ≡ 16 ⌝ }
+    ensures { λ r. ⌜ Finds (now (s .entry)) r (now (places .exit)) ⌝ }
+{
+    let p = read_on(s, places);
+    if !in_place::distinct::distinct(s, places, p.count) {
+        return Found {
+            refusal: 8,
+            generation: 0,
+            count: 0,
+        };
+    }
+    Found {
+        refusal: end_refusal(s, p),
+        generation: p.generation,
+        count: p.count,
+    }
 }

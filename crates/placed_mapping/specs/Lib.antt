@@ -1,0 +1,3 @@
+pub mod SliceLaws
+pub mod FieldLaws
+pub mod ValidLaws

@@ -1,2 +1,3 @@
 pub mod Striped
 pub mod Found
+pub mod Turns

@@ -1,3 +1,4 @@
 pub mod SliceLaws
 pub mod FieldLaws
 pub mod ValidLaws
+pub mod SpanLaws

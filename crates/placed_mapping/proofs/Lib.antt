@@ -1,3 +1,4 @@
 pub mod Striped
 pub mod Found
 pub mod Turns
+pub mod Owned

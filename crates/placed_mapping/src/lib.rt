@@ -2,3 +2,4 @@
 // requests cut into pieces. No layout is built, and no component is copied out.
 pub mod cutting;
 pub mod homes;
+pub mod objects;

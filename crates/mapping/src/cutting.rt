@@ -47,7 +47,7 @@ fn higher_of(a: u64, b: u64) -> u64
 }
 
 // Does a byte of the request from `offset` to `stop` lie in the component, and is that not init?
-fn not_init_asked(c: Span, offset: u64, stop: u64) -> bool
+pub fn not_init_asked(c: Span, offset: u64, stop: u64) -> bool
     ensures { λ r. ⌜ r ≡ notInitAsked offset stop c ⌝ }
 {
     !c.init & (higher_of(offset, c.begin) < lower_of(stop, c.end))
@@ -70,7 +70,7 @@ fn any_not_init_asked(spans: [Span; 16], n: usize, offset: u64, stop: u64) -> bo
 }
 
 // The number of pieces of the request from `offset` to `stop` in one component, by arithmetic.
-fn part_count(c: Span, offset: u64, stop: u64) -> u64
+pub fn part_count(c: Span, offset: u64, stop: u64) -> u64
     requires { ⌜ Cuttable c ⌝ }
     ensures { λ r. ⌜ (r ≡ partCount offset stop c) × (r ≤ 2 ^ 48) ⌝ }
 {
@@ -132,7 +132,7 @@ fn refusal_by(spans: [Span; 16], n: usize, end: u64, offset: u64, bytes: u64, nu
 
 // Writes the pieces of the request from `offset` to `stop` in one component from place `at` on, and gives the place
 // behind them.
-fn put_part(room: &mut [u64], at: usize, c: Span, offset: u64, stop: u64) -> usize
+pub fn put_part(room: &mut [u64], at: usize, c: Span, offset: u64, stop: u64) -> usize
     requires { ⌜ (Cuttable c) × (at + 5 * partCount offset stop c ≤ length (now room)) ⌝ }
     ensures { λ r. ⌜ (now (room .exit) ≡ sets (now (room .entry)) at (allNumbers (partPieces offset stop c)))
         × (r ≡ at + 5 * partCount offset stop c) ⌝ }

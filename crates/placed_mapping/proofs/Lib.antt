@@ -1,0 +1,4 @@
+pub mod Striped
+pub mod Found
+pub mod Turns
+pub mod Owned

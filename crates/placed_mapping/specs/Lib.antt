@@ -1,0 +1,4 @@
+pub mod SliceLaws
+pub mod FieldLaws
+pub mod ValidLaws
+pub mod SpanLaws

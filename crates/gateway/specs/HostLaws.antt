@@ -59,29 +59,28 @@ unfolding outBuffer
 buffer-stays zero page buffer h = absurd (h refl)
 buffer-stays (suc n) page buffer h = refl
 
--- Each call on bytes s where r is their reading and is refused: the number is that of the reading, and what was lent
--- stays.
-module _ (s : List ℕ) (r : Reading) (e : r ≡ hostReading s) (h : r .refusal ≡ 0 → ⊥) where
+-- Each call on bytes whose reading is refused: the number is that of the reading, and what was lent stays.
+module _ (s : List ℕ) (h : hostReading s .refusal ≡ 0 → ⊥) where
   -- The number, and that it is not 0, whatever the call's own number n.
-  first-number : (n : ℕ) → r .refusal ≡ under (hostReading s) n
-  first-number n = rw (← e) (under-refused r n h)
+  first-number : (n : ℕ) → hostReading s .refusal ≡ under (hostReading s) n
+  first-number n = under-refused (hostReading s) n h
 
   refused : (n : ℕ) → under (hostReading s) n ≡ 0 → ⊥
   refused n z = h (first-number n ∙ z)
 
-  pub lookup-refused : (b : ℕ) (home : List ℕ) → (r .refusal ≡ lookupNumber s b) × (home ≡ homeAfter s b home)
+  pub lookup-refused : (b : ℕ) (home : List ℕ) → (hostReading s .refusal ≡ lookupNumber s b) × (home ≡ homeAfter s b home)
   unfolding lookupNumber homeAfter
   lookup-refused b home =
       let n = lookupRefusal b (hostComponents s) in
       (first-number n, lent-stays (under (hostReading s) n) _ home (refused n))
 
-  pub back-refused : (a : Home) (offset : ℕ) → (r .refusal ≡ backNumber s a) × (offset ≡ offsetAfter s a offset)
+  pub back-refused : (a : Home) (offset : ℕ) → (hostReading s .refusal ≡ backNumber s a) × (offset ≡ offsetAfter s a offset)
   unfolding backNumber offsetAfter
   back-refused a offset =
       let n = backRefusal a (hostComponents s) in
       (first-number n, lent-stays (under (hostReading s) n) _ offset (refused n))
 
-  pub cut-refused : (a m : ℕ) (room : List ℕ) (count : ℕ) → (r .refusal ≡ cutNumber s a m room)
+  pub cut-refused : (a m : ℕ) (room : List ℕ) (count : ℕ) → (hostReading s .refusal ≡ cutNumber s a m room)
       × (room ≡ piecesAfter s a m room) × (count ≡ countAfter s a m room count)
   unfolding cutNumber piecesAfter countAfter
   cut-refused a m room count =
@@ -91,7 +90,7 @@ module _ (s : List ℕ) (r : Reading) (e : r ≡ hostReading s) (h : r .refusal 
         lent-stays (under (hostReading s) n) _ count (refused n),
       )
 
-  pub page-refused : (k : ℕ) (buffer : List ℕ) (written : ℕ) → (r .refusal ≡ pageNumber s k buffer)
+  pub page-refused : (k : ℕ) (buffer : List ℕ) (written : ℕ) → (hostReading s .refusal ≡ pageNumber s k buffer)
       × (buffer ≡ bufferAfter s k buffer) × (written ≡ writtenAfter s k buffer written)
   unfolding pageNumber bufferAfter writtenAfter
   page-refused k buffer written =
@@ -101,61 +100,57 @@ module _ (s : List ℕ) (r : Reading) (e : r ≡ hostReading s) (h : r .refusal 
         lent-stays (under (hostReading s) n) _ written (refused n),
       )
 
--- Each call on bytes s where r is their reading and is not refused: the layout is valid, and the number is that of the
--- library's call on a valid layout.
-module _ (s : List ℕ) (r : Reading) (e : r ≡ hostReading s) (z : r .refusal ≡ 0) where
+-- Each call on bytes whose reading is not refused: the number is that of the library's call on a valid layout.
+module _ (s : List ℕ) (z : hostReading s .refusal ≡ 0) where
   -- The number is the call's own.
   own-number : (n : ℕ) → under (hostReading s) n ≡ n
-  own-number n = rw (← e) (under-read r n z)
+  own-number n = under-read (hostReading s) n z
 
-  pub read-valid : valid (r .layout) ≡ true
-  read-valid = rw e (host-valid s (rw e at z))
-
-  pub lookup-read : (b : ℕ) → lookupIn b (view (r .layout)) ≡ answer (lookupNumber s b) (homeOf b (hostComponents s))
+  pub lookup-read : (b : ℕ) → lookupIn b (hostComponents s) ≡ answer (lookupNumber s b) (homeOf b (hostComponents s))
   unfolding lookupIn lookupNumber
-  lookup-read b = rw (own-number (lookupRefusal b (hostComponents s)), e)
+  lookup-read b = rw (own-number (lookupRefusal b (hostComponents s)))
 
-  pub back-read : (a : Home) → backIn a (view (r .layout)) ≡ answer (backNumber s a) (byteOf a (hostComponents s))
+  pub back-read : (a : Home) → backIn a (hostComponents s) ≡ answer (backNumber s a) (byteOf a (hostComponents s))
   unfolding backIn backNumber
-  back-read a = rw (own-number (backRefusal a (hostComponents s)), e)
+  back-read a = rw (own-number (backRefusal a (hostComponents s)))
 
   pub cut-read : (a m : ℕ) (room : List ℕ)
-      → cutIn a m (length room) (view (r .layout)) ≡ answer (cutNumber s a m room) (cutCount a m (hostComponents s))
+      → cutIn a m (length room) (hostComponents s) ≡ answer (cutNumber s a m room) (cutCount a m (hostComponents s))
   unfolding cutIn cutNumber
-  cut-read a m room = rw (own-number (cutRefusal a m (length room) (hostComponents s)), e)
+  cut-read a m room = rw (own-number (cutRefusal a m (length room) (hostComponents s)))
 
   pub room-read : (a m : ℕ) (room out : List ℕ)
-      → (let cs = view (r .layout) in out ≡ roomAfter (cutRefusal a m (length room) cs) (cutPieces a m cs) room)
+      → (let cs = hostComponents s in out ≡ roomAfter (cutRefusal a m (length room) cs) (cutPieces a m cs) room)
       → out ≡ piecesAfter s a m room
   unfolding cutNumber piecesAfter
-  room-read a m room out o = o ∙ rw (own-number (cutRefusal a m (length room) (hostComponents s)), e)
+  room-read a m room out o = o ∙ rw (own-number (cutRefusal a m (length room) (hostComponents s)))
 
-  pub page-read : (k : ℕ) (buffer : List ℕ) → outAnswer (writeRefusal (r .layout) k (length buffer)) (writtenPage (r .layout) k)
+  pub page-read : (k : ℕ) (buffer : List ℕ) → outAnswer (writeRefusal (hostLayout s) k (length buffer)) (writtenPage (hostLayout s) k)
       ≡ outAnswer (pageNumber s k buffer) (writtenPage (hostLayout s) k)
   unfolding pageNumber
-  page-read k buffer = rw (own-number (writeRefusal (hostLayout s) k (length buffer)), e)
+  page-read k buffer = rw (own-number (writeRefusal (hostLayout s) k (length buffer)))
 
   pub buffer-read : (k : ℕ) (buffer out : List ℕ)
-      → out ≡ outBuffer (writeRefusal (r .layout) k (length buffer)) (writtenPage (r .layout) k) buffer
+      → out ≡ outBuffer (writeRefusal (hostLayout s) k (length buffer)) (writtenPage (hostLayout s) k) buffer
       → out ≡ bufferAfter s k buffer
   unfolding pageNumber bufferAfter
-  buffer-read k buffer out o = o ∙ rw (own-number (writeRefusal (hostLayout s) k (length buffer)), e)
+  buffer-read k buffer out o = o ∙ rw (own-number (writeRefusal (hostLayout s) k (length buffer)))
 
 -- Where the bytes s are read without a refusal, each call answers as the library's call of that name does of the layout
 -- that was read.
 module _ (s : List ℕ) (z : hostReading s .refusal ≡ 0) where
   pub lookup-same : (b : ℕ) → lookupOf b (hostLayout s) ≡ answer (lookupNumber s b) (homeOf b (hostComponents s))
   unfolding lookupOf lookupIn
-  lookup-same b = rw (host-valid s z) (lookup-read s (hostReading s) refl z b)
+  lookup-same b = rw (host-valid s z) (lookup-read s z b)
 
   pub back-same : (h : Home) → backOf h (hostLayout s) ≡ answer (backNumber s h) (byteOf h (hostComponents s))
   unfolding backOf backIn
-  back-same h = rw (host-valid s z) (back-read s (hostReading s) refl z h)
+  back-same h = rw (host-valid s z) (back-read s z h)
 
   pub cut-same : (a m : ℕ) (room : List ℕ)
       → cutOf a m (length room) (hostLayout s) ≡ answer (cutNumber s a m room) (cutCount a m (hostComponents s))
   unfolding cutOf cutIn
-  cut-same a m room = rw (host-valid s z) (cut-read s (hostReading s) refl z a m room)
+  cut-same a m room = rw (host-valid s z) (cut-read s z a m room)
 
   pub page-same : (k : ℕ) (buffer : List ℕ) → outRefusal (hostLayout s) k (length buffer) ≡ pageNumber s k buffer
   unfolding outRefusal pageNumber

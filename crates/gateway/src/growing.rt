@@ -261,11 +261,13 @@ pub extern "C" fn moorsickle_grow(
         × (now (grown .exit) ≡ grownAfter n (now (grown .entry)) o)
         × (now (answer .exit) ≡ answerAfter n (now (answer .entry)) o)) ⌝ }
 {
-    let r = collector::run::read_host(pages);
-    if r.refusal != 0 {
-        return r.refusal as u32;
+    let mut places = [0usize; 16];
+    let read = placed_run::read(pages, &mut places);
+    if read.refusal != 0 {
+        return read.refusal as u32;
     }
-    let g = step(r.layout, offset, low_mark, table);
+    let l = in_place::whole::layout_at(pages, &places, read.count, read.generation);
+    let g = step(l, offset, low_mark, table);
     let out = g.out;
     let number = number_of(out);
     if number != 0 {

@@ -9,6 +9,8 @@
 //  4 a page's number is not the next, or its generation is not that of page 0;
 //  5 there are more than 16 components;
 //  6, 7, 8 the components break the rules of fields, of neighbours or of distinctness.
+// The pages are read in place: no layout is built but where a page of it is asked for, or it is to grow.
+//
 // Offsets, lengths and bytes are counted in bytes, a file byte from the file's start and an object byte from its
 // object's; pages, components and stripes are counted from 0.
 ghost use mathlib.Core.Path.{_≡_};
@@ -30,11 +32,12 @@ pub extern "C" fn moorsickle_lookup(pages: &[u8], offset: u64, home: &mut [u64; 
         (r ≡ lookupNumber s offset)
         × (now (home .exit) ≡ homeAfter s offset (now (home .entry)))) ⌝ }
 {
-    let read = collector::run::read_host(pages);
+    let mut places = [0usize; 16];
+    let read = placed_run::read(pages, &mut places);
     if read.refusal != 0 {
         return read.refusal as u32;
     }
-    let found = mapping::homes::lookup_valid(read.layout, offset);
+    let found = placed_mapping::homes::lookup(pages, &places, read.count, offset);
     lent::put_home(found, home)
 }
 
@@ -55,11 +58,13 @@ pub extern "C" fn moorsickle_back(
         (r ≡ backNumber s home)
         × (now (offset .exit) ≡ offsetAfter s home (now (offset .entry)))) ⌝ }
 {
-    let read = collector::run::read_host(pages);
+    let mut places = [0usize; 16];
+    let read = placed_run::read(pages, &mut places);
     if read.refusal != 0 {
         return read.refusal as u32;
     }
-    let found = mapping::objects::back_valid(read.layout, target, number, byte);
+    let found =
+        placed_mapping::objects::back(pages, &places, read.count, target, number, byte);
     lent::put_offset(found, offset)
 }
 
@@ -85,11 +90,12 @@ pub extern "C" fn moorsickle_cut(
         × (now (room .exit) ≡ piecesAfter s offset length lent)
         × (now (count .exit) ≡ countAfter s offset length lent (now (count .entry)))) ⌝ }
 {
-    let read = collector::run::read_host(pages);
+    let mut places = [0usize; 16];
+    let read = placed_run::read(pages, &mut places);
     if read.refusal != 0 {
         return read.refusal as u32;
     }
-    let cut = mapping::cutting::cut_valid(read.layout, offset, length, room);
+    let cut = placed_mapping::cutting::cut(pages, &places, read.count, offset, length, room);
     lent::put_count(cut, count)
 }
 
@@ -111,10 +117,12 @@ pub extern "C" fn moorsickle_page(
         × (now (buffer .exit) ≡ bufferAfter s number lent)
         × (now (written .exit) ≡ writtenAfter s number lent (now (written .entry)))) ⌝ }
 {
-    let read = collector::run::read_host(pages);
+    let mut places = [0usize; 16];
+    let read = placed_run::read(pages, &mut places);
     if read.refusal != 0 {
         return read.refusal as u32;
     }
-    let out = paging::write_page(read.layout, number, buffer);
+    let l = in_place::whole::layout_at(pages, &places, read.count, read.generation);
+    let out = paging::write_page(l, number, buffer);
     lent::put_written(out, written)
 }

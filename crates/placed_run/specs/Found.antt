@@ -26,11 +26,12 @@ use Rattle.placed_run.specs.Progress.{placedOf, Kept}
 use Rattle.placed_run.specs.PlacingLaws.{run-alike}
 
 -- The number is that of reading the host's bytes into a layout; where it is 0, that layout has the generation and the components
--- at the first places, and is valid.
+-- at the first of the 16 places, and is valid.
 pub record Finds (s : List ℕ) (r : Found) (places : List ℕ) : Type 0 where
   pub refusal : r .refusal ≡ readRun hostCut s .refusal
   pub layout : r .refusal ≡ 0 → readRun hostCut s .layout ≡ packed (r .generation) (componentsAt s (take (r .count) places))
   pub valid-at : r .refusal ≡ 0 → ValidAt s (r .count) places
+  pub room : length places ≡ 16
 
 -- A reading in place that has come to its end.
 module _ (s : List ℕ) (p : Progress) (places : List ℕ) (k : Kept s p places) (e : placedOf p places ≡ placedRun s) where
@@ -62,6 +63,7 @@ module _ (s : List ℕ) (p : Progress) (places : List ℕ) (k : Kept s p places)
         refusal = sym (number-is ∙ rw d);
         layout = λ z. absurd (omega arith);
         valid-at = λ z. absurd (omega arith);
+        room = k .room;
       }
 
   -- They are.
@@ -73,4 +75,5 @@ module _ (s : List ℕ) (p : Progress) (places : List ℕ) (k : Kept s p places)
         refusal = same;
         layout = λ z. layout-is (sym same ∙ z);
         valid-at = λ z. valid-is (sym same ∙ z);
+        room = k .room;
       }

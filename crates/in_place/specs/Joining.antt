@@ -1,5 +1,5 @@
--- The rules of fields and of neighbours (6, 7), asked of new components behind those that keep the rules already. Only the new
--- ones are asked, and the last of the old.
+-- The rules of fields and of neighbours (6, 7), asked of new components behind those that keep the rules already. Only
+-- the new ones are asked, and the last of the old.
 use Prim.Native.Nat.{ℕ}
 use mathlib.Core.List.{List}
 use mathlib.Core.Bool.{Bool, true, not, cond, _&&_, _||_}
@@ -11,13 +11,13 @@ use Rattle.layout.specs.Records.{neighboursOf}
 use Rattle.layout.specs.Fields.{fieldTests}
 use Rattle.layout.specs.Neighbours.{mayStand, isEmpty, emptyBefore}
 
--- What stands for the component before the first: it ends at 0, no extension may follow it, and nothing is asked of its own
--- extent.
+-- What stands for the component before the first: it ends at 0, no extension may follow it, and nothing is asked of its
+-- own extent.
 abbrev pub noneBefore : Neighbour
 noneBefore = record { init = true; extension = true; begin = 0; end = 0 }
 
--- The neighbour rules between a component and the one directly before it: it begins where that ends; an extension follows a
--- component that is not one; and that, if not init, is empty exactly if this is an extension.
+-- The neighbour rules between a component and the one directly before it: it begins where that ends; an extension
+-- follows a component that is not one; and that, if not init, is empty exactly if this is an extension.
 unfoldable pub joins : Neighbour → Neighbour → Bool
 joins before c =
     eqb (c .begin) (before .end)

@@ -1,6 +1,6 @@
--- The components at places, by the places: at a turn of a loop over them, and before its first.
+-- The components at places, by the places: what a loop over the places asks for.
 use Prim.Native.Nat.{ℕ, _+_, _-_, _≤_, _<_, min}
-use mathlib.Core.Path.{_≡_, refl, ap, _∙_}
+use mathlib.Core.Path.{_≡_, ap, _∙_}
 use mathlib.Core.List.{List, [], _∷_, _++_}
 use native.Mathlib.Omega.{arith}
 use lib.ListN.{length, getD, take, length-map, length-append}
@@ -12,7 +12,7 @@ use Rattle.page.specs.Form.{recordsAt}
 use Rattle.page.specs.Content.{componentAt}
 use Rattle.in_place.specs.Places.{componentsAt}
 use Rattle.in_place.specs.RecordLaws.{records-length}
-use Rattle.in_place.specs.Joining.{noneBefore, latest, lastOf}
+use Rattle.in_place.specs.Joining.{noneBefore, lastOf}
 
 module _ (s ps : List ℕ) where
   -- The components from place i up to place n are the one at place i and those from place i + 1 on.
@@ -25,17 +25,17 @@ module _ (s ps : List ℕ) where
   components-done n i h = rw (slice-done ps n i h)
 
   module _ (n i : ℕ) (h : i < n) (k : i < length ps) where
-    -- Their object records are those of the component at place i and those of the rest,
+    -- Their object records are those of the component at place i and those of the rest:
     pub records-next : recordsIn (componentsAt s (slice i n ps))
         ≡ recordsOf (componentAt s (getD ps i 0)) ++ recordsIn (componentsAt s (slice (i + 1) n ps))
     records-next = rw (components-next n i h k)
 
-    -- so many in all.
+    -- as many as stand behind place i, at most 16, and as many as the rest have.
     pub total-next : length (recordsIn (componentsAt s (slice i n ps)))
         ≡ min 16 (recordsAt s (getD ps i 0)) + length (recordsIn (componentsAt s (slice (i + 1) n ps)))
     total-next = rw (records-next, length-append, records-length s (getD ps i 0))
 
-  -- As many components as places, where there are n.
+  -- There are as many components as places.
   pub components-length : (n : ℕ) → n ≤ length ps → length (componentsAt s (take n ps)) ≡ n
   components-length n h = length-map (take n ps) (componentAt s) ∙ length-take-le n ps h
 

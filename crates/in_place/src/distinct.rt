@@ -1,5 +1,5 @@
-// Distinctness (8), asked of components at places. The object records are copied once into two dense rows, of targets and
-// of numbers, and the rows are scanned. The rows are cleared at each call, so there are short ones for few records.
+// Distinctness (8), asked of components at places. The object records are copied once into two dense rows, of targets
+// and of numbers, and the rows are scanned. The rows are cleared at each call, so few records get short ones.
 ghost use mathlib.Core.Path.{_≡_};
 ghost use Prim.Native.Nat.{_+_, _*_, _≤_};
 ghost use lib.ListN.{length, take};

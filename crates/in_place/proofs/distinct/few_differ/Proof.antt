@@ -1,6 +1,4 @@
 -- `in_place::distinct::few_differ` meets its contract: the rows hold the object records of the components.
-use mathlib.Core.List.{List}
-use native.Mathlib.Omega.{arith}
 use lib.ListN.{take, replicate}
 use denote.Ref.{now}
 use Rattle.layout.specs.Records.{recordsIn}

@@ -1,6 +1,6 @@
 -- `in_place::distinct::record_total` meets its contract: the records counted so far and those that are left are all.
 use Prim.Native.Nat.{_+_, _*_, _-_, _≤_}
-use mathlib.Core.Path.{_≡_, _∙_}
+use mathlib.Core.Path.{_≡_}
 use native.Mathlib.Omega.{arith}
 use lib.ListN.{length, take}
 use lib.Seq.{slice}

@@ -1,5 +1,5 @@
 -- `in_place::fields::fields_ok` meets its contract: the tests are those of the definition, in its order.
-use mathlib.Core.Path.{_≡_, sym, _∙_}
+use mathlib.Core.Path.{sym, _∙_}
 use denote.Ref.{now}
 use Rattle.page.specs.Content.{componentAt}
 use Rattle.in_place.proofs.FieldsAt.{fields-at}

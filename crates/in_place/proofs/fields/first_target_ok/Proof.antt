@@ -40,8 +40,8 @@ returns-3 c =
     let e = toZ-ofZ (sfits-of (i .ok)) ∙ i .ensures in
     let b = not-false (a .init) (c .before .before .before .if1 .left) in
     let t = c .before .u32-at in
-    rw (b, first-behind z (now (a .s)) (a .at) (a .n) h, ← t .ensures)
-    (c .is-target .ensures ∙ ap (λ (y : ℤ). isTarget y (t .result)) e)
+    rw (b, first-behind z (now (a .s)) (a .at) (a .n) h)
+    (c .is-target .ensures ∙ ap (λ (y : ℤ). isTarget y (t .result)) e ∙ ap (isTarget z) (t .ensures))
 
 pub first-target-ok-spec : {M : Type 1} → statement M
 first-target-ok-spec = tie.close (tie.spec (λ c. search needs) (λ c κs. search needs) (λ c κs. search needs) returns returns-2 (λ c. search needs) (λ c κs. search needs) (λ c κs. search needs) returns-3)

@@ -1,8 +1,8 @@
 -- `in_place::neighbours::new_rule_broken` meets its contract: the components asked so far and those that are left give
 -- what all give.
-use Prim.Native.Nat.{_+_, _-_, _≤_}
-use mathlib.Core.Path.{_≡_, sym, _∙_}
-use mathlib.Core.Bool.{not, cond, _&&_, _||_}
+use Prim.Native.Nat.{ℕ, _+_, _-_, _≤_}
+use mathlib.Core.Path.{_≡_, sym, ap, _∙_}
+use mathlib.Core.Bool.{Bool, not, cond, _&&_, _||_}
 use native.Mathlib.Omega.{arith}
 use lib.ListN.{getD, take}
 use lib.Seq.{slice}
@@ -87,12 +87,12 @@ returns c =
 returns-2 : tie.Need-returns-2 Inv-loop μ-loop
 returns-2 c =
     let f = not-false (c .before .before .before .before .loop .sound) (c .before .before .if1 .left) in
-    sym (done (c .before .before .before) ∙ rw (f, c .if2 .taken))
+    sym (done (c .before .before .before) ∙ rw f (ap (λ (b : Bool). cond {A = ℕ} b 0 7) (c .if2 .taken)))
 
 returns-3 : tie.Need-returns-3 Inv-loop μ-loop
 returns-3 c =
     let f = not-false (c .before .before .before .before .loop .sound) (c .before .before .if1 .left) in
-    sym (done (c .before .before .before) ∙ rw (f, c .if2 .left))
+    sym (done (c .before .before .before) ∙ rw f (ap (λ (b : Bool). cond {A = ℕ} b 0 7) (c .if2 .left)))
 
 pub new-rule-broken-spec : {M : Type 1} → statement M
 new-rule-broken-spec = tie.close (tie.spec Inv-loop μ-loop before-requires loop-holds (λ c. search needs) (λ c. search needs) neighbour-at-requires fields-ok-requires (λ c κs. search needs) (λ c. search needs) (λ c. search needs) loop-again returns returns-2 returns-3)

@@ -31,7 +31,8 @@ module _ (s ps : List ℕ) (n : ℕ) (v : ValidAt s n ps) (room : length ps ≡ 
     held = rw (← at) (valid-at s ps n v room i h)
 
     -- It is not init.
-    pub not-init-holds : componentAt s (getD ps i 0) .init ≡ false → lookupIn b (componentsAt s (take n ps)) ≡ refuses 11
+    pub not-init-holds : componentAt s (getD ps i 0) .init ≡ false
+        → lookupIn b (componentsAt s (take n ps)) ≡ refuses 11
     not-init-holds e = lookup-not-init (valid-keeps s ps n v) b below (ap (λ (c : Component). c .init) held ∙ e)
 
     -- It is init.

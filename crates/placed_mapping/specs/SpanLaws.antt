@@ -7,7 +7,6 @@ use lib.ListN.{length, getD, take}
 use lib.Seq.{slice}
 use Rattle.lists.specs.Tests.{after-append}
 use Rattle.lists.specs.Slices.{take-next, map-append}
-use Rattle.layout.specs.declared.Component.{Component}
 use Rattle.layout.specs.Holder.{lastEnd}
 use Rattle.page.specs.Content.{componentAt}
 use Rattle.in_place.specs.Places.{componentsAt, ValidAt}

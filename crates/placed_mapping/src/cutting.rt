@@ -3,7 +3,7 @@ use mapping::CutOut;
 use mapping::Span;
 use mapping::cutting;
 ghost use mathlib.Core.Path.{_≡_};
-ghost use Prim.Native.Nat.{_+_, _*_, _≤_};
+ghost use Prim.Native.Nat.{_*_, _≤_};
 ghost use lib.ListN.{length, take};
 ghost use lib.Seq.{sets};
 ghost use Rattle.lists.specs.Tests.{anyOf};
@@ -59,10 +59,19 @@ pub fn asked_of(s: &[u8], places: &[usize; 16], n: usize, offset: u64, stop: u64
     }
 }
 
-// The number of the refusal of the request of `bytes` bytes from `offset` into so many lent numbers: 9, 10, 11 or 12, or 0.
-pub fn refusal(s: &[u8], places: &[usize; 16], n: usize, offset: u64, bytes: u64, numbers: usize) -> u8
+// The number of the refusal of the request of `bytes` bytes from `offset` into so many lent numbers: 9, 10, 11 or 12,
+// or 0.
+pub fn refusal(
+    s: &[u8],
+    places: &[usize; 16],
+    n: usize,
+    offset: u64,
+    bytes: u64,
+    numbers: usize,
+) -> u8
     requires { ⌜ ValidAt (now s) n (now places) × (length (now places) ≡ 16) ⌝ }
-    ensures { λ r. ⌜ r ≡ cutRefusal offset bytes numbers (componentsAt (now (s .entry)) (take n (now (places .entry)))) ⌝ }
+    ensures { λ r. ⌜ r
+        ≡ cutRefusal offset bytes numbers (componentsAt (now (s .entry)) (take n (now (places .entry)))) ⌝ }
 {
     if u64::MAX - offset < bytes {
         return 9;
@@ -82,9 +91,16 @@ pub fn refusal(s: &[u8], places: &[usize; 16], n: usize, offset: u64, bytes: u64
     0
 }
 
-// Writes the pieces of the request from `offset` to `stop` in the components at the first n places into the first of the lent
-// numbers, and gives how many numbers they are.
-pub fn put_pieces(room: &mut [u64], s: &[u8], places: &[usize; 16], n: usize, offset: u64, stop: u64) -> usize
+// Writes the pieces of the request from `offset` to `stop` in the components at the first n places into the first of
+// the lent numbers, and gives how many numbers they are.
+pub fn put_pieces(
+    room: &mut [u64],
+    s: &[u8],
+    places: &[usize; 16],
+    n: usize,
+    offset: u64,
+    stop: u64,
+) -> usize
     requires { ⌜ ValidAt (now s) n (now places)
         × (length (now places) ≡ 16)
         × (5 * pieceCount offset stop (spansAt (now s) (take n (now places))) ≤ length (now room)) ⌝ }
@@ -103,11 +119,19 @@ pub fn put_pieces(room: &mut [u64], s: &[u8], places: &[usize; 16], n: usize, of
     w
 }
 
-// Cuts the request of `bytes` bytes from `offset` at every component border and at every multiple of the component's stripe size,
-// and writes five numbers a piece, in file order, into the first of the lent numbers; the others stay. Refused by 9 where offset +
-// bytes is above 2^64 - 1, 10 where a byte asked for lies at or past the last component's end, 11 where one lies in a component
-// that is not init, 12 where there are more pieces than 256 or than a fifth of the lent numbers: all of them then stay.
-pub fn cut(s: &[u8], places: &[usize; 16], n: usize, offset: u64, bytes: u64, room: &mut [u64]) -> CutOut
+// Cuts the request of `bytes` bytes from `offset` at every component border and at every multiple of the component's
+// stripe size, and writes five numbers a piece, in file order, into the first of the lent numbers; the others stay.
+// Refused by 9 where offset + bytes is above 2^64 - 1, 10 where a byte asked for lies at or past the last component's
+// end, 11 where one lies in a component that is not init, 12 where there are more pieces than 256 or than a fifth of
+// the lent numbers: all of them then stay.
+pub fn cut(
+    s: &[u8],
+    places: &[usize; 16],
+    n: usize,
+    offset: u64,
+    bytes: u64,
+    room: &mut [u64],
+) -> CutOut
     requires { ⌜ ValidAt (now s) n (now places) × (length (now places) ≡ 16) ⌝ }
     ensures { λ r. ⌜ (let lent = now (room .entry) in
         let cs = componentsAt (now (s .entry)) (take n (now (places .entry))) in

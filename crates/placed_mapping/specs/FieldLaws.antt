@@ -18,10 +18,6 @@ module _ (s : List ℕ) (at : ℕ) where
   unfolding componentAt
   init-at = refl
 
-  pub id-at : componentAt s at .id ≡ u16At s (at + 4)
-  unfolding componentAt
-  id-at = refl
-
   pub stripe-count-at : componentAt s at .«stripe_count» ≡ u16At s (at + 6)
   unfolding componentAt
   stripe-count-at = refl

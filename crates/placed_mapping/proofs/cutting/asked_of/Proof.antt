@@ -12,7 +12,8 @@ use borrow.Author.Needs.{needs}
 use Rattle.lists.specs.Tests.{anyOf}
 use Rattle.page.specs.Form.{behind}
 use Rattle.mapping.specs.Cutting.{notInitAsked, pieceCount}
-use Rattle.placed_mapping.specs.SpanLaws.{spansAt, spans-done}
+use Rattle.placed_mapping.specs.Spans.{spansAt}
+use Rattle.placed_mapping.specs.SpanLaws.{spans-done}
 use Rattle.placed_mapping.proofs.Turns.{turn-cuttable, turn-asked, turn-count}
 use Rattle.placed_mapping.proofs.cutting.asked_of.Statement.{statement}
 use Rattle.placed_mapping.proofs.cutting.asked_of.Tie as tie

@@ -11,7 +11,7 @@ use Rattle.mapping.specs.Answers.{gives}
 use Rattle.mapping.specs.Cutting.{pieceCount, cutIn, cutSays}
 use Rattle.mapping.specs.CuttingLaws.{cut-refused, cut-accepted}
 use Rattle.mapping.specs.Acceptance.{Accepted, accepted-facts}
-use Rattle.placed_mapping.specs.SpanLaws.{spansAt}
+use Rattle.placed_mapping.specs.Spans.{spansAt}
 use Rattle.placed_mapping.proofs.cutting.cut.Statement.{statement}
 use Rattle.placed_mapping.proofs.cutting.cut.Tie as tie
 

@@ -9,7 +9,8 @@ use denote.Ref.{now}
 use borrow.Author.Needs.{needs}
 use Rattle.page.specs.Form.{behind}
 use Rattle.mapping.specs.Cutting.{partCount, piecesOf, pieceCount, allNumbers}
-use Rattle.placed_mapping.specs.SpanLaws.{spansAt, spans-done}
+use Rattle.placed_mapping.specs.Spans.{spansAt}
+use Rattle.placed_mapping.specs.SpanLaws.{spans-done}
 use Rattle.placed_mapping.proofs.Turns.{turn-cuttable, turn-count, turn-pieces}
 use Rattle.placed_mapping.proofs.cutting.put_pieces.Statement.{statement}
 use Rattle.placed_mapping.proofs.cutting.put_pieces.Tie as tie

@@ -14,7 +14,8 @@ use Rattle.page.specs.Form.{behind}
 use Rattle.in_place.specs.Places.{componentsAt}
 use Rattle.mapping.specs.Cutting.{notInitAsked, pieceCount, tooMany, refusalBy}
 use Rattle.placed_mapping.specs.FieldLaws.{end-at}
-use Rattle.placed_mapping.specs.SpanLaws.{spansAt, last-end-at}
+use Rattle.placed_mapping.specs.Spans.{spansAt}
+use Rattle.placed_mapping.specs.SpanLaws.{last-end-at}
 use Rattle.placed_mapping.proofs.cutting.refusal.Statement.{statement}
 use Rattle.placed_mapping.proofs.cutting.refusal.Tie as tie
 

@@ -16,22 +16,23 @@ use Rattle.mapping.specs.Lookup.{lookupIn}
 use Rattle.mapping.specs.HomeLaws.{holder, lookup-none, lookup-not-init, lookup-init}
 use Rattle.placed_mapping.specs.ValidLaws.{valid-keeps, valid-length, valid-at}
 
-module _ (s ps : List ℕ) (n : ℕ) (v : ValidAt s n ps) (room : length ps ≡ 16)
+module _ (s ps : List ℕ) (n : ℕ) (v : ValidAt s n ps) (sixteen : length ps ≡ 16)
     (b i : ℕ) (at : i ≡ holderOf b (componentsAt s (take n ps))) where
   -- No component holds byte b.
   pub none-holds : n ≤ i → lookupIn b (componentsAt s (take n ps)) ≡ refuses 10
-  none-holds h = lookup-none (valid-keeps s ps n v) b (omega (arith, valid-length s ps n v room))
+  none-holds h = lookup-none (valid-keeps s ps n v) b (omega (arith, valid-length s ps n v sixteen))
 
   module _ (h : i < n) where
     below : holderOf b (componentsAt s (take n ps)) < length (componentsAt s (take n ps))
-    below = omega (arith, valid-length s ps n v room)
+    below = omega (arith, valid-length s ps n v sixteen)
 
     -- The component that holds byte b stands at place i.
     held : holder b (componentsAt s (take n ps)) ≡ componentAt s (getD ps i 0)
-    held = rw (← at) (valid-at s ps n v room i h)
+    held = rw (← at) (valid-at s ps n v sixteen i h)
 
     -- It is not init.
-    pub not-init-holds : componentAt s (getD ps i 0) .init ≡ false → lookupIn b (componentsAt s (take n ps)) ≡ refuses 11
+    pub not-init-holds : componentAt s (getD ps i 0) .init ≡ false
+        → lookupIn b (componentsAt s (take n ps)) ≡ refuses 11
     not-init-holds e = lookup-not-init (valid-keeps s ps n v) b below (ap (λ (c : Component). c .init) held ∙ e)
 
     -- It is init.

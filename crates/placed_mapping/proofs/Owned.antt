@@ -15,28 +15,28 @@ use Rattle.mapping.specs.Back.{ownerOf, owner, fileByteIn, hiddenRefusal, backR
 use Rattle.mapping.specs.BackLaws.{owner-elem, owner-has, elem-init}
 use Rattle.placed_mapping.specs.ValidLaws.{valid-length, valid-at, valid-init}
 
-module _ (s ps : List ℕ) (n : ℕ) (v : ValidAt s n ps) (room : length ps ≡ 16)
+module _ (s ps : List ℕ) (n : ℕ) (v : ValidAt s n ps) (sixteen : length ps ≡ 16)
     (o : Object) (p i : ℕ) (at : i ≡ ownerOf o (componentsAt s (take n ps))) where
   -- No component has the object.
   pub not-owned : n ≤ i → backIn (inObject o p) (componentsAt s (take n ps)) ≡ refuses 13
   unfolding backIn backRefusal
   not-owned h =
       let cs = componentsAt s (take n ps) in
-      rw (owner-elem o cs, le-ltb (ownerOf o cs) (length cs) (omega (arith, valid-length s ps n v room)))
+      rw (owner-elem o cs, le-ltb (ownerOf o cs) (length cs) (omega (arith, valid-length s ps n v sixteen)))
 
   module _ (h : i < n) where
     below : ownerOf o (componentsAt s (take n ps)) < length (componentsAt s (take n ps))
-    below = omega (arith, valid-length s ps n v room)
+    below = omega (arith, valid-length s ps n v sixteen)
 
     -- The component of the object stands at place i.
     owner-placed : owner o (componentsAt s (take n ps)) ≡ componentAt s (getD ps i 0)
-    owner-placed = rw (← at) (valid-at s ps n v room i h)
+    owner-placed = rw (← at) (valid-at s ps n v sixteen i h)
 
     -- It is init.
     pub owner-init : IsInit (componentAt s (getD ps i 0))
     owner-init =
         let has = rw owner-placed at (owner-has o (componentsAt s (take n ps)) below) in
-        valid-init s ps n v room i h (elem-init o (componentAt s (getD ps i 0)) has)
+        valid-init s ps n v sixteen i h (elem-init o (componentAt s (getD ps i 0)) has)
 
     -- By its extent the file byte of byte p is given or refused.
     pub owned : let c = componentAt s (getD ps i 0) in

@@ -11,18 +11,19 @@ use Rattle.mapping.specs.declared.Span.{Span}
 use Rattle.mapping.specs.Spans.{Cuttable}
 use Rattle.mapping.specs.Cutting.{notInitAsked, partCount, partPieces, pieceCount, piecesOf, allNumbers}
 use Rattle.mapping.specs.CuttingLaws.{pieces-next}
-use Rattle.placed_mapping.specs.SpanLaws.{spanAt, spansAt, spans-next, cuttable-at}
+use Rattle.placed_mapping.specs.Spans.{spanAt, spansAt}
+use Rattle.placed_mapping.specs.SpanLaws.{spans-next, cuttable-at}
 
 -- The request goes from a to b, and x is the component at place i as it was read.
-module _ (s ps : List ℕ) (n : ℕ) (v : ValidAt s n ps) (room : length ps ≡ 16) (i : ℕ) (h : i < n)
+module _ (s ps : List ℕ) (n : ℕ) (v : ValidAt s n ps) (sixteen : length ps ≡ 16) (i : ℕ) (h : i < n)
     (a b : ℕ) (x : Span) (read : x ≡ spanAt s (getD ps i 0)) where
   -- It can be cut.
   pub turn-cuttable : Cuttable x
-  turn-cuttable = rw read (cuttable-at s ps n v room i h)
+  turn-cuttable = rw read (cuttable-at s ps n v sixteen i h)
 
   -- The components from place i on are x and those behind it.
   turn : spansAt s (slice i n ps) ≡ x ∷ spansAt s (slice (i + 1) n ps)
-  turn = spans-next s ps n v room i h ∙ ap (λ (y : Span). y ∷ spansAt s (slice (i + 1) n ps)) (sym read)
+  turn = spans-next s ps n v sixteen i h ∙ ap (λ (y : Span). y ∷ spansAt s (slice (i + 1) n ps)) (sym read)
 
   -- What was found so far or is asked of them, was found, is asked of x, or is asked of those behind it.
   pub turn-asked : (found asked : Bool) → asked ≡ notInitAsked a b x

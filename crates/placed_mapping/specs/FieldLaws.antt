@@ -1,9 +1,8 @@
--- The fields of the component at a place are the numbers that stand there, and the object record of stripe i stands at the i-th
--- place behind it.
-use Prim.Native.Nat.{ℕ, zero, suc, _+_, _*_, _≤_, _<_, min}
+-- The fields of the component at a place are the numbers that stand there, and its object records are those behind it.
+use Prim.Native.Nat.{ℕ, zero, suc, _+_, _*_, _<_, min}
 use mathlib.Core.Path.{_≡_, refl, ap, sym, _∙_}
 use mathlib.Core.List.{List}
-use mathlib.Core.Bool.{Bool, true}
+use mathlib.Core.Bool.{Bool}
 use native.Mathlib.Omega.{arith}
 use lib.ListN.{length, getD}
 use Rattle.bytes_le.specs.Numbers.{u16At, u32At, u64At}
@@ -18,10 +17,6 @@ module _ (s : List ℕ) (at : ℕ) where
   pub init-at : componentAt s at .init ≡ isSet 0 (u16At s (at + 2))
   unfolding componentAt
   init-at = refl
-
-  pub id-at : componentAt s at .id ≡ u16At s (at + 4)
-  unfolding componentAt
-  id-at = refl
 
   pub stripe-count-at : componentAt s at .«stripe_count» ≡ u16At s (at + 6)
   unfolding componentAt

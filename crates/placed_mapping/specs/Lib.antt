@@ -1,3 +1,4 @@
+pub mod Spans
 pub mod SliceLaws
 pub mod FieldLaws
 pub mod ValidLaws

@@ -1,8 +1,8 @@
--- What a loop over the components at the first n places asks for: those from place i on are the component there and those at the
--- places behind it.
+-- What a loop over the components at the first n places asks for: those from place i on are the component there and
+-- those at the places behind it.
 use Prim.Native.Nat.{ℕ, zero, suc, _+_, _≤_, _<_}
 use mathlib.Core.Path.{_≡_, refl, _∙_}
-use mathlib.Core.List.{List, [], _∷_, map}
+use mathlib.Core.List.{List, [], _∷_}
 use native.Mathlib.Omega.{arith}
 use lib.ListN.{length, getD, take, length-map}
 use lib.Seq.{slice, getD-take, length-take-le}

@@ -1,4 +1,4 @@
--- The components at places as cutting sees them.
+-- The laws of components at places as cutting sees them.
 use Prim.Native.Nat.{ℕ, _+_, _-_, _≤_, _<_}
 use mathlib.Core.Path.{_≡_, ap, _∙_}
 use mathlib.Core.List.{List, [], _∷_}
@@ -7,38 +7,29 @@ use lib.ListN.{length, getD, take}
 use lib.Seq.{slice}
 use Rattle.lists.specs.Tests.{after-append}
 use Rattle.lists.specs.Slices.{take-next, map-append}
-use Rattle.layout.specs.declared.Component.{Component}
 use Rattle.layout.specs.Holder.{lastEnd}
 use Rattle.page.specs.Content.{componentAt}
 use Rattle.in_place.specs.Places.{componentsAt, ValidAt}
-use Rattle.mapping.specs.declared.Span.{Span}
-use Rattle.mapping.specs.Spans.{spanOf, spansOf, Cuttable}
+use Rattle.mapping.specs.Spans.{spansOf, Cuttable}
+use Rattle.placed_mapping.specs.Spans.{spanAt, spansAt}
 use Rattle.placed_mapping.specs.SliceLaws.{components-done}
 use Rattle.placed_mapping.specs.ValidLaws.{valid-init, valid-next}
-
--- The component at a place.
-abbrev pub spanAt : List ℕ → ℕ → Span
-spanAt s at = spanOf (componentAt s at)
-
--- The components at places.
-abbrev pub spansAt : List ℕ → List ℕ → List Span
-spansAt s ps = spansOf (componentsAt s ps)
 
 -- Past the last place there are none.
 pub spans-done : (s ps : List ℕ) (n i : ℕ) → n ≤ i → spansAt s (slice i n ps) ≡ []
 spans-done s ps n i h = ap spansOf (components-done s ps n i h)
 
 -- The components at the first n places are those of a valid layout.
-module _ (s ps : List ℕ) (n : ℕ) (v : ValidAt s n ps) (room : length ps ≡ 16) where
+module _ (s ps : List ℕ) (n : ℕ) (v : ValidAt s n ps) (sixteen : length ps ≡ 16) where
   module _ (i : ℕ) (h : i < n) where
     -- Those from place i on are the one there and those at the places behind it.
     pub spans-next : spansAt s (slice i n ps) ≡ spanAt s (getD ps i 0) ∷ spansAt s (slice (i + 1) n ps)
-    spans-next = ap spansOf (valid-next s ps n v room i h)
+    spans-next = ap spansOf (valid-next s ps n v sixteen i h)
 
     -- Each can be cut.
     pub cuttable-at : Cuttable (spanAt s (getD ps i 0))
     cuttable-at e =
-        let k = valid-init s ps n v room i h e .striped in
+        let k = valid-init s ps n v sixteen i h e .striped in
         (omega (arith, k .size .nonzero, k .size .multiple), k .some)
 
   -- The last end is that of the component at the last of the n places.

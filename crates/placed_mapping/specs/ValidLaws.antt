@@ -19,7 +19,7 @@ module _ (s ps : List ℕ) (n : ℕ) (v : ValidAt s n ps) where
   pub valid-keeps : Keeps false (componentsAt s (take n ps))
   valid-keeps = keeps-facts false (componentsAt s (take n ps)) (v .3)
 
-  module _ (room : length ps ≡ 16) where
+  module _ (sixteen : length ps ≡ 16) where
     -- There are n of them.
     pub valid-length : length (componentsAt s (take n ps)) ≡ n
     valid-length = length-components s ps n (omega arith)

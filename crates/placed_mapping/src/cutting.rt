@@ -3,7 +3,7 @@ use mapping::CutOut;
 use mapping::Span;
 use mapping::cutting;
 ghost use mathlib.Core.Path.{_≡_};
-ghost use Prim.Native.Nat.{_+_, _*_, _≤_};
+ghost use Prim.Native.Nat.{_*_, _≤_};
 ghost use lib.ListN.{length, take};
 ghost use lib.Seq.{sets};
 ghost use Rattle.lists.specs.Tests.{anyOf};
@@ -13,16 +13,16 @@ ghost use Rattle.in_place.specs.Places.{componentsAt, ValidAt};
 ghost use Rattle.mapping.specs.Spans.{spanOf};
 ghost use Rattle.mapping.specs.Cutting.{notInitAsked, piecesOf, pieceCount, allNumbers};
 ghost use Rattle.mapping.specs.Cutting.{cutRefusal, cutPieces, cutIn, cutSays, roomAfter};
-ghost use Rattle.placed_mapping.specs.SpanLaws.{spansAt};
+ghost use Rattle.placed_mapping.specs.Spans.{spansAt};
 
 // What a request asks of components: whether a byte of it lies in one that is not init, and the number of its pieces.
-pub struct Asked {
-    pub not_init: bool,
-    pub pieces: u64,
+struct Asked {
+    not_init: bool,
+    pieces: u64,
 }
 
 // The component at the place as cutting sees it.
-pub fn span_at(s: &[u8], at: usize) -> Span
+fn span_at(s: &[u8], at: usize) -> Span
     requires { ⌜ behind (now s) at ≤ length (now s) ⌝ }
     ensures { λ r. ⌜ r ≡ spanOf (componentAt (now (s .entry)) at) ⌝ }
 {
@@ -37,7 +37,7 @@ pub fn span_at(s: &[u8], at: usize) -> Span
 }
 
 // What the request from `offset` to `stop` asks of the components at the first n places, in one pass over them.
-pub fn asked_of(s: &[u8], places: &[usize; 16], n: usize, offset: u64, stop: u64) -> Asked
+fn asked_of(s: &[u8], places: &[usize; 16], n: usize, offset: u64, stop: u64) -> Asked
     requires { ⌜ ValidAt (now s) n (now places) × (length (now places) ≡ 16) ⌝ }
     ensures { λ r. ⌜ (let spans = spansAt (now (s .entry)) (take n (now (places .entry))) in
         (r .«not_init» ≡ anyOf (notInitAsked offset stop) spans)
@@ -59,10 +59,12 @@ pub fn asked_of(s: &[u8], places: &[usize; 16], n: usize, offset: u64, stop: u64
     }
 }
 
-// The number of the refusal of the request of `bytes` bytes from `offset` into so many lent numbers: 9, 10, 11 or 12, or 0.
-pub fn refusal(s: &[u8], places: &[usize; 16], n: usize, offset: u64, bytes: u64, numbers: usize) -> u8
+// The number of the refusal of the request of `bytes` bytes from `offset` into so many lent numbers: 9, 10, 11 or 12,
+// or 0.
+fn refusal(s: &[u8], places: &[usize; 16], n: usize, offset: u64, bytes: u64, numbers: usize) -> u8
     requires { ⌜ ValidAt (now s) n (now places) × (length (now places) ≡ 16) ⌝ }
-    ensures { λ r. ⌜ r ≡ cutRefusal offset bytes numbers (componentsAt (now (s .entry)) (take n (now (places .entry)))) ⌝ }
+    ensures { λ r. ⌜ r
+        ≡ cutRefusal offset bytes numbers (componentsAt (now (s .entry)) (take n (now (places .entry)))) ⌝ }
 {
     if u64::MAX - offset < bytes {
         return 9;
@@ -82,9 +84,16 @@ pub fn refusal(s: &[u8], places: &[usize; 16], n: usize, offset: u64, bytes: u64
     0
 }
 
-// Writes the pieces of the request from `offset` to `stop` in the components at the first n places into the first of the lent
-// numbers, and gives how many numbers they are.
-pub fn put_pieces(room: &mut [u64], s: &[u8], places: &[usize; 16], n: usize, offset: u64, stop: u64) -> usize
+// Writes the pieces of the request from `offset` to `stop` in the components at the first n places into the first of
+// the lent numbers, and gives how many numbers they are.
+fn put_pieces(
+    room: &mut [u64],
+    s: &[u8],
+    places: &[usize; 16],
+    n: usize,
+    offset: u64,
+    stop: u64,
+) -> usize
     requires { ⌜ ValidAt (now s) n (now places)
         × (length (now places) ≡ 16)
         × (5 * pieceCount offset stop (spansAt (now s) (take n (now places))) ≤ length (now room)) ⌝ }
@@ -103,11 +112,19 @@ pub fn put_pieces(room: &mut [u64], s: &[u8], places: &[usize; 16], n: usize, of
     w
 }
 
-// Cuts the request of `bytes` bytes from `offset` at every component border and at every multiple of the component's stripe size,
-// and writes five numbers a piece, in file order, into the first of the lent numbers; the others stay. Refused by 9 where offset +
-// bytes is above 2^64 - 1, 10 where a byte asked for lies at or past the last component's end, 11 where one lies in a component
-// that is not init, 12 where there are more pieces than 256 or than a fifth of the lent numbers: all of them then stay.
-pub fn cut(s: &[u8], places: &[usize; 16], n: usize, offset: u64, bytes: u64, room: &mut [u64]) -> CutOut
+// Cuts the request of `bytes` bytes from `offset` at every component border and at every multiple of the component's
+// stripe size, and writes five numbers a piece, in file order, into the first of the lent numbers; the others stay.
+// Refused by 9 where offset + bytes is above 2^64 - 1, 10 where a byte asked for lies at or past the last component's
+// end, 11 where one lies in a component that is not init, 12 where there are more pieces than 256 or than a fifth of
+// the lent numbers: all of them then stay.
+pub fn cut(
+    s: &[u8],
+    places: &[usize; 16],
+    n: usize,
+    offset: u64,
+    bytes: u64,
+    room: &mut [u64],
+) -> CutOut
     requires { ⌜ ValidAt (now s) n (now places) × (length (now places) ≡ 16) ⌝ }
     ensures { λ r. ⌜ (let lent = now (room .entry) in
         let cs = componentsAt (now (s .entry)) (take n (now (places .entry))) in

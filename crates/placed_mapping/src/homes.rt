@@ -2,7 +2,7 @@
 use mapping::LookupOut;
 use mapping::ObjectHome;
 ghost use mathlib.Core.Path.{_≡_};
-ghost use Prim.Native.Nat.{_+_, _*_, _≤_};
+ghost use Prim.Native.Nat.{_≤_};
 ghost use lib.ListN.{length, take};
 ghost use Rattle.layout.specs.Holder.{holderOf};
 ghost use Rattle.layout.specs.Facts.{IsInit};
@@ -13,7 +13,7 @@ ghost use Rattle.mapping.specs.Homes.{homeIn};
 ghost use Rattle.mapping.specs.Lookup.{homeSays, lookupSays, lookupIn};
 
 // The position of the component that holds a file byte, which is the first that ends above it, or n.
-pub fn holder(s: &[u8], places: &[usize; 16], n: usize, offset: u64) -> usize
+fn holder(s: &[u8], places: &[usize; 16], n: usize, offset: u64) -> usize
     requires { ⌜ ValidAt (now s) n (now places) × (length (now places) ≡ 16) ⌝ }
     ensures { λ r. ⌜ (r ≡ holderOf offset (componentsAt (now (s .entry)) (take n (now (places .entry)))))
         × (r ≤ n) ⌝ }
@@ -29,9 +29,9 @@ pub fn holder(s: &[u8], places: &[usize; 16], n: usize, offset: u64) -> usize
     i
 }
 
-// The home of a file byte by the init component at the place; the component's extent is not looked at. Of its object records only
-// that of the byte's stripe is read.
-pub fn home_at(s: &[u8], at: usize, offset: u64) -> ObjectHome
+// The home of a file byte by the init component at the place; the component's extent is not looked at. Of its object
+// records only that of the byte's stripe is read.
+fn home_at(s: &[u8], at: usize, offset: u64) -> ObjectHome
     requires { ⌜ (behind (now s) at ≤ length (now s)) × IsInit (componentAt (now s) at) ⌝ }
     ensures { λ r. ⌜ homeSays r ≡ homeIn (componentAt (now (s .entry)) at) offset ⌝ }
 {
@@ -47,8 +47,8 @@ pub fn home_at(s: &[u8], at: usize, offset: u64) -> ObjectHome
     }
 }
 
-// The home of a file byte. Refused by 10 where the byte lies at or past the last component's end, and by 11 where it lies in a
-// component that is not init.
+// The home of a file byte. Refused by 10 where the byte lies at or past the last component's end, and by 11 where it
+// lies in a component that is not init.
 pub fn lookup(s: &[u8], places: &[usize; 16], n: usize, offset: u64) -> LookupOut
     requires { ⌜ ValidAt (now s) n (now places) × (length (now places) ≡ 16) ⌝ }
     ensures { λ r. ⌜ lookupSays r ≡ lookupIn offset (componentsAt (now (s .entry)) (take n (now (places .entry)))) ⌝ }

@@ -1,5 +1,5 @@
-// Where file bytes stand in the store, by components at places in the bytes of pages: the home of a byte, the byte of a home, and
-// requests cut into pieces. No layout is built, and no component is copied out.
+// Where file bytes stand in the store, by components at places in the bytes of pages: the home of a byte, the byte of a
+// home, and requests cut into pieces. No layout is built: what is asked for is read from the bytes.
 pub mod cutting;
 pub mod homes;
 pub mod objects;

@@ -13,8 +13,9 @@ ghost use Rattle.mapping.specs.Answers.{answer};
 ghost use Rattle.mapping.specs.Homes.{inObject};
 ghost use Rattle.mapping.specs.Back.{positionIn, ownerOf, fileByteIn, hiddenRefusal, backSays, backIn};
 
-// The position of the first object record of the component at the place with this target and number, or the number of its records.
-pub fn position_at(s: &[u8], at: usize, target: u32, number: u64) -> usize
+// The position of the first object record of the component at the place with this target and number, or the number of
+// its records.
+fn position_at(s: &[u8], at: usize, target: u32, number: u64) -> usize
     requires { ⌜ behind (now s) at ≤ length (now s) ⌝ }
     ensures { λ r. ⌜ (r ≡ positionIn (objectOf target number) (recordsOf (componentAt (now (s .entry)) at)))
         × (r ≤ 16) ⌝ }
@@ -32,7 +33,7 @@ pub fn position_at(s: &[u8], at: usize, target: u32, number: u64) -> usize
 }
 
 // The position of the first component with an object record of this target and number, or n.
-pub fn owner(s: &[u8], places: &[usize; 16], n: usize, target: u32, number: u64) -> usize
+fn owner(s: &[u8], places: &[usize; 16], n: usize, target: u32, number: u64) -> usize
     requires { ⌜ ValidAt (now s) n (now places) × (length (now places) ≡ 16) ⌝ }
     ensures { λ r. ⌜ (r
         ≡ ownerOf (objectOf target number) (componentsAt (now (s .entry)) (take n (now (places .entry)))))
@@ -49,9 +50,9 @@ pub fn owner(s: &[u8], places: &[usize; 16], n: usize, target: u32, number: u64)
     i
 }
 
-// The file byte of byte `byte` of the object with this target and number by the init component at the place, or 14 where it is
-// outside the component's extent or not below 2^64.
-pub fn byte_at(s: &[u8], at: usize, target: u32, number: u64, byte: u64) -> BackOut
+// The file byte of byte `byte` of the object with this target and number by the init component at the place, or 14
+// where it is outside the component's extent or not below 2^64.
+fn byte_at(s: &[u8], at: usize, target: u32, number: u64, byte: u64) -> BackOut
     requires { ⌜ (behind (now s) at ≤ length (now s)) × IsInit (componentAt (now s) at) ⌝ }
     ensures { λ r. ⌜ (let c = componentAt (now (s .entry)) at in
         let b = fileByteIn c (objectOf target number) byte in
@@ -68,9 +69,16 @@ pub fn byte_at(s: &[u8], at: usize, target: u32, number: u64, byte: u64) -> Back
     )
 }
 
-// The file byte of byte `byte` of the object with this target and number. Refused by 13 where the object is not in the layout, and
-// by 14 where that byte of it is no byte of its component.
-pub fn back(s: &[u8], places: &[usize; 16], n: usize, target: u32, number: u64, byte: u64) -> BackOut
+// The file byte of byte `byte` of the object with this target and number. Refused by 13 where the object is not in the
+// layout, and by 14 where that byte of it is no byte of its component.
+pub fn back(
+    s: &[u8],
+    places: &[usize; 16],
+    n: usize,
+    target: u32,
+    number: u64,
+    byte: u64,
+) -> BackOut
     requires { ⌜ ValidAt (now s) n (now places) × (length (now places) ≡ 16) ⌝ }
     ensures { λ r. ⌜ backSays r
         ≡ backIn

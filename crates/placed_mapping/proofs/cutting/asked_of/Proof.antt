@@ -1,7 +1,7 @@
--- `placed_mapping::cutting::asked_of` meets its contract: what is asked of all components is what was found so far and what is
--- left to ask of those from place i on.
+-- `placed_mapping::cutting::asked_of` meets its contract: what is asked of all components is what was found so far and
+-- what is left to ask of those from place i on.
 use Prim.Native.Nat.{_+_, _*_, _^_, _≤_, _-_}
-use mathlib.Core.Path.{_≡_, refl, sym, ap, _∙_}
+use mathlib.Core.Path.{_≡_, refl, sym, _∙_}
 use mathlib.Core.Bool.{_||_, or-false}
 use native.Mathlib.Omega.{arith}
 use native.Mathlib.Nat.{zero-add, add-zero}
@@ -11,8 +11,9 @@ use denote.Ref.{now}
 use borrow.Author.Needs.{needs}
 use Rattle.lists.specs.Tests.{anyOf}
 use Rattle.page.specs.Form.{behind}
-use Rattle.mapping.specs.Cutting.{notInitAsked, partCount, pieceCount}
-use Rattle.placed_mapping.specs.SpanLaws.{spansAt, spans-done}
+use Rattle.mapping.specs.Cutting.{notInitAsked, pieceCount}
+use Rattle.placed_mapping.specs.Spans.{spansAt}
+use Rattle.placed_mapping.specs.SpanLaws.{spans-done}
 use Rattle.placed_mapping.proofs.Turns.{turn-cuttable, turn-asked, turn-count}
 use Rattle.placed_mapping.proofs.cutting.asked_of.Statement.{statement}
 use Rattle.placed_mapping.proofs.cutting.asked_of.Tie as tie

@@ -11,7 +11,7 @@ use Rattle.mapping.specs.Answers.{gives}
 use Rattle.mapping.specs.Cutting.{pieceCount, cutIn, cutSays}
 use Rattle.mapping.specs.CuttingLaws.{cut-refused, cut-accepted}
 use Rattle.mapping.specs.Acceptance.{Accepted, accepted-facts}
-use Rattle.placed_mapping.specs.SpanLaws.{spansAt}
+use Rattle.placed_mapping.specs.Spans.{spansAt}
 use Rattle.placed_mapping.proofs.cutting.cut.Statement.{statement}
 use Rattle.placed_mapping.proofs.cutting.cut.Tie as tie
 
@@ -21,12 +21,13 @@ returns c =
     let r = c .before .refusal in
     let a = c .before .before .before .before .args in
     let ps = take (a .n) (now (a .places)) in
-    cut-refused (lastEnd (componentsAt (now (a .s)) ps)) (a .offset) (a .bytes) (spansAt (now (a .s)) ps) (now (a .room))
-    (r .result) (r .ensures) (c .if1 .taken)
+    cut-refused (lastEnd (componentsAt (now (a .s)) ps)) (a .offset) (a .bytes) (spansAt (now (a .s)) ps)
+    (now (a .room)) (r .result) (r .ensures) (c .if1 .taken)
 
 -- Past the test, the request is accepted.
 fits : (c : tie.Else1) → let a = c .before .before .before .before .args in let ps = take (a .n) (now (a .places)) in
-    Accepted (lastEnd (componentsAt (now (a .s)) ps)) (a .offset) (a .bytes) (length (now (a .room))) (spansAt (now (a .s)) ps)
+    Accepted (lastEnd (componentsAt (now (a .s)) ps)) (a .offset) (a .bytes) (length (now (a .room)))
+    (spansAt (now (a .s)) ps)
 fits c =
     let a = c .before .before .before .before .args in
     let ps = take (a .n) (now (a .places)) in

@@ -1,17 +1,16 @@
--- `placed_mapping::cutting::put_pieces` meets its contract: all stores give what those of the pieces of the components from place
--- i on give to the room.
+-- `placed_mapping::cutting::put_pieces` meets its contract: all stores give what those of the pieces of the components
+-- from place i on give to the room.
 use Prim.Native.Nat.{_+_, _*_, _≤_, _-_}
 use mathlib.Core.Path.{_≡_, refl, sym, _∙_}
 use native.Mathlib.Omega.{arith}
-use native.Mathlib.Nat.{zero-add}
 use lib.ListN.{length, getD, take}
 use lib.Seq.{sets, slice}
 use denote.Ref.{now}
 use borrow.Author.Needs.{needs}
 use Rattle.page.specs.Form.{behind}
-use Rattle.mapping.specs.Spans.{Cuttable}
 use Rattle.mapping.specs.Cutting.{partCount, piecesOf, pieceCount, allNumbers}
-use Rattle.placed_mapping.specs.SpanLaws.{spansAt, spans-done}
+use Rattle.placed_mapping.specs.Spans.{spansAt}
+use Rattle.placed_mapping.specs.SpanLaws.{spans-done}
 use Rattle.placed_mapping.proofs.Turns.{turn-cuttable, turn-count, turn-pieces}
 use Rattle.placed_mapping.proofs.cutting.put_pieces.Statement.{statement}
 use Rattle.placed_mapping.proofs.cutting.put_pieces.Tie as tie
@@ -29,7 +28,7 @@ abbrev μ-loop : tie.MeasureT-loop
 μ-loop room₀ s places n offset stop w₀ i₀ room w i = n - i
 
 loop-holds : tie.Need-loop-holds Inv-loop μ-loop
-loop-holds c = (search needs, refl, zero-add _, refl)
+loop-holds c = (search needs, refl, omega arith, refl)
 
 -- The component at place i ends by the end of the bytes.
 within : (c : tie.In-loop Inv-loop μ-loop) → let a = c .before .before .before .before .args in
@@ -71,7 +70,8 @@ loop-again c =
     let s = p .before .before .before in
     let a = s .args in
     let pieces = turn-pieces (now (a .s)) (now (a .places)) (a .n) (s .pre .0) (s .pre .1) (p .loop .i)
-    (turn .loop-test .taken) (a .offset) (a .stop) (x .span-at .result) (x .span-at .ensures) (p .loop .room) (p .loop .w) in (
+    (turn .loop-test .taken) (a .offset) (a .stop) (x .span-at .result) (x .span-at .ensures) (p .loop .room)
+    (p .loop .w) in (
       omega arith,
       put .put-part .kept .0 ∙ p .loop .inv .1,
       omega (arith, put .put-part .ensures .1, counts x, p .loop .inv .2),

@@ -14,7 +14,8 @@ use Rattle.page.specs.Form.{behind}
 use Rattle.in_place.specs.Places.{componentsAt}
 use Rattle.mapping.specs.Cutting.{notInitAsked, pieceCount, tooMany, refusalBy}
 use Rattle.placed_mapping.specs.FieldLaws.{end-at}
-use Rattle.placed_mapping.specs.SpanLaws.{spansAt, last-end-at}
+use Rattle.placed_mapping.specs.Spans.{spansAt}
+use Rattle.placed_mapping.specs.SpanLaws.{last-end-at}
 use Rattle.placed_mapping.proofs.cutting.refusal.Statement.{statement}
 use Rattle.placed_mapping.proofs.cutting.refusal.Tie as tie
 
@@ -85,14 +86,15 @@ returns-3 c =
 
 -- 11 does not apply past the third test.
 not-11 : (c : tie.Else3) → let a = c .before .before .before .before .before .before .before .args in
-    anyOf (notInitAsked (a .offset) (a .offset + a .bytes)) (spansAt (now (a .s)) (take (a .n) (now (a .places)))) ≡ false
+    let spans = spansAt (now (a .s)) (take (a .n) (now (a .places))) in
+    anyOf (notInitAsked (a .offset) (a .offset + a .bytes)) spans ≡ false
 not-11 c = sym (c .before .asked-of .ensures .0) ∙ c .if3 .left
 
 -- The test of 12 is asked of the number of pieces.
-too-many-pieces : (c : tie.After-too-many) → let a = c .before .before .before .before .before .before .before .before .args in
-    tooMany (a .numbers)
-    (pieceCount (a .offset) (a .offset + a .bytes) (spansAt (now (a .s)) (take (a .n) (now (a .places)))))
-    ≡ c .too-many .result
+too-many-pieces : (c : tie.After-too-many) →
+    let a = c .before .before .before .before .before .before .before .before .args in
+    let spans = spansAt (now (a .s)) (take (a .n) (now (a .places))) in
+    tooMany (a .numbers) (pieceCount (a .offset) (a .offset + a .bytes) spans) ≡ c .too-many .result
 too-many-pieces c =
     let asked = c .before .before .asked-of in
     let a = c .before .before .before .before .before .before .before .before .args in

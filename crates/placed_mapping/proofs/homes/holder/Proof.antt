@@ -1,6 +1,6 @@
 -- `placed_mapping::homes::holder` meets its contract: the component that holds a byte is the first that ends above it.
-use Prim.Native.Nat.{_+_, _≤_, _<_, _-_}
-use mathlib.Core.Path.{_≡_, sym, ap, _∙_}
+use Prim.Native.Nat.{_+_, _≤_, _-_}
+use mathlib.Core.Path.{_≡_, sym, _∙_}
 use mathlib.Core.List.{_∷_}
 use mathlib.Core.Bool.{false}
 use native.Mathlib.Omega.{arith}
@@ -20,9 +20,6 @@ use Rattle.placed_mapping.specs.FieldLaws.{end-at}
 use Rattle.placed_mapping.specs.ValidLaws.{valid-keeps, valid-next}
 use Rattle.placed_mapping.proofs.homes.holder.Statement.{statement}
 use Rattle.placed_mapping.proofs.homes.holder.Tie as tie
-use Rattle.placed_mapping.proofs.homes.holder.Reads as reads
-use Rattle.placed_mapping.proofs.homes.holder.Lts as lts
-use Rattle.bytes_le.proofs.u64_at.Reads as u64-at-reads
 
 abbrev Inv-loop : tie.InvT-loop
 Inv-loop s places n offset i₀ i =
@@ -38,7 +35,8 @@ loop-holds c =
     let s = now (a .s) in
     let ps = now (a .places) in (
       search needs,
-      holder-ends false (componentsAt s (take (a .n) ps)) (valid-keeps s ps (a .n) (c .before .pre .0) .linked) (a .offset)
+      holder-ends false (componentsAt s (take (a .n) ps)) (valid-keeps s ps (a .n) (c .before .pre .0) .linked)
+          (a .offset)
           ∙ sym (zero-add _),
     )
 
@@ -74,18 +72,17 @@ end-read c =
 
 returns : tie.Need-returns Inv-loop μ-loop
 returns c =
-    let turn = c .before .before .before in (
-      sym (turn .before .loop .inv .1
-          ∙ rw (next turn, end-read (c .before), lt-ltb _ _ (c .if1 .taken)) (add-zero _)),
-      omega arith,
-    )
+    let turn = c .before .before .before in
+    let a = turn .before .before .before .args in
+    let above = lt-ltb (a .offset) (c .before .u64-at .result) (omega arith) in
+    (sym (turn .before .loop .inv .1 ∙ rw (next turn, end-read (c .before), above) (add-zero _)), omega arith)
 
 loop-again : tie.Need-loop-again Inv-loop μ-loop
 loop-again c =
-    let turn = c .before .before .before in (
-      omega arith,
-      turn .before .loop .inv .1 ∙ rw (next turn, end-read (c .before), le-ltb _ _ (c .if1 .left)) (omega arith),
-    )
+    let turn = c .before .before .before in
+    let a = turn .before .before .before .args in
+    let not-above = le-ltb (a .offset) (c .before .u64-at .result) (omega arith) in
+    (omega arith, turn .before .loop .inv .1 ∙ rw (next turn, end-read (c .before), not-above) (omega arith))
 
 returns-2 : tie.Need-returns-2 Inv-loop μ-loop
 returns-2 c =

@@ -1,5 +1,6 @@
--- `placed_mapping::homes::home_at` meets its contract: the object record of the byte's stripe stands behind the component.
-use Prim.Native.Nat.{_+_, _*_, _≤_, _<_}
+-- `placed_mapping::homes::home_at` meets its contract: the object record of the byte's stripe stands behind the
+-- component.
+use Prim.Native.Nat.{_<_}
 use mathlib.Core.Path.{_≡_, sym, _∙_}
 use native.Mathlib.Omega.{arith}
 use denote.Ref.{now}
@@ -9,13 +10,6 @@ use Rattle.placed_mapping.specs.FieldLaws.{stripe-count-at, stripe-size-
 use Rattle.placed_mapping.proofs.Striped.{home-placed}
 use Rattle.placed_mapping.proofs.homes.home_at.Statement.{statement}
 use Rattle.placed_mapping.proofs.homes.home_at.Tie as tie
-use Rattle.placed_mapping.proofs.homes.home_at.Reads as reads
-use Rattle.placed_mapping.proofs.homes.home_at.Lts as lts
-use Rattle.bytes_le.proofs.u16_at.Reads as u16-at-reads
-use Rattle.bytes_le.proofs.u32_at.Reads as u32-at-reads
-use Rattle.page.proofs.decode.object_at.Reads as object-at-reads
-use Rattle.stripe.proofs.object_byte.Reads as object-byte-reads
-use Rattle.stripe.proofs.stripe_of.Reads as stripe-of-reads
 
 -- The stripe count that was read is the component's.
 count-read : (c : tie.After-u16-at) → let a = c .before .before .args in
@@ -44,8 +38,13 @@ object-at-requires : tie.Need-object-at-requires
 object-at-requires c κs =
     let count = c .before .before .before in
     let s = count .before .before in
-    omega (arith, s .pre .0, c .before .stripe-of .ensures .1, count-read count,
-    init-count (now (s .args .s)) (s .args .at) (s .pre .1))
+    omega (
+      arith,
+      s .pre .0,
+      c .before .stripe-of .ensures .1,
+      count-read count,
+      init-count (now (s .args .s)) (s .args .at) (s .pre .1),
+    )
 
 returns : tie.Need-returns
 returns c =

@@ -1,7 +1,7 @@
 -- `placed_mapping::homes::lookup` meets its contract: the answer is by the component that holds the byte.
-use Prim.Native.Nat.{_≤_, _<_}
+use Prim.Native.Nat.{_≤_}
 use mathlib.Core.Path.{_≡_, sym, ap, _∙_}
-use mathlib.Core.Bool.{true, false}
+use mathlib.Core.Bool.{true}
 use mathlib.Core.Option.{some}
 use native.Mathlib.Omega.{arith}
 use lib.ListN.{length, getD}
@@ -72,8 +72,8 @@ home-at-requires c κs =
     let s = e .before .before .before in
     let a = s .args in (
       within e,
-      valid-init (now (a .s)) (now (a .places)) (a .n) (s .pre .0) (s .pre .1) (e .before .holder .result) (e .if1 .left)
-          (init c),
+      valid-init (now (a .s)) (now (a .places)) (a .n) (s .pre .0) (s .pre .1) (e .before .holder .result)
+          (e .if1 .left) (init c),
     )
 
 returns-3 : tie.Need-returns-3
@@ -89,5 +89,15 @@ returns-3 c =
 
 pub lookup-spec : {M : Type 1} → statement M
 lookup-spec =
-    tie.close (tie.spec (λ c κs. search needs) returns (λ c. search needs) (λ c. search needs) add-u16-at u16-at-requires
-    (λ c κs. search needs) returns-2 home-at-requires returns-3)
+    tie.close
+    (tie.spec
+    (λ c κs. search needs)
+    returns
+    (λ c. search needs)
+    (λ c. search needs)
+    add-u16-at
+    u16-at-requires
+    (λ c κs. search needs)
+    returns-2
+    home-at-requires
+    returns-3)

@@ -1,5 +1,4 @@
 -- `placed_mapping::objects::byte_at` meets its contract: extent and striping are those of the component at the place.
-use Prim.Native.Nat.{_<_}
 use mathlib.Core.Path.{_≡_, sym, _∙_}
 use native.Mathlib.Omega.{arith}
 use denote.Ref.{now}
@@ -10,35 +9,37 @@ use Rattle.placed_mapping.specs.FieldLaws.{stripe-count-at, stripe-size-
 use Rattle.placed_mapping.proofs.objects.byte_at.Statement.{statement}
 use Rattle.placed_mapping.proofs.objects.byte_at.Tie as tie
 
+-- The numbers that were read are the component's begin, end, stripe size and stripe count.
+read : (c : tie.After-u16-at) → let size = c .before in let end = size .before in let begin = end .before in
+    let a = begin .before .before .before .args in
+    let x = componentAt (now (a .s)) (a .at) in
+    (x .begin ≡ begin .u64-at .result)
+    × (x .end ≡ end .u64-at2 .result)
+    × (x .«stripe_size» ≡ size .u32-at .result)
+    × (x .«stripe_count» ≡ c .u16-at .result)
+read c =
+    let size = c .before in
+    let end = size .before in
+    let begin = end .before in
+    let a = begin .before .before .before .args in
+    let s = now (a .s) in (
+      begin-at s (a .at) ∙ sym (begin .u64-at .ensures),
+      end-at s (a .at) ∙ sym (end .u64-at2 .ensures),
+      stripe-size-at s (a .at) ∙ sym (size .u32-at .ensures),
+      stripe-count-at s (a .at) ∙ sym (c .u16-at .ensures),
+    )
+
 byte-within-requires : tie.Need-byte-within-requires
 byte-within-requires c κs =
-    let s = c .before .before .before .before .before .before in
-    let a = s .args in
-    let k = s .pre .1 .striped in (
-      omega (arith, k .size .nonzero, stripe-size-at (now (a .s)) (a .at), c .before .u32-at .ensures),
-      omega (arith, k .some, stripe-count-at (now (a .s)) (a .at), c .u16-at .ensures),
-    )
+    let k = c .before .before .before .before .before .before .pre .1 .striped in
+    (omega (arith, k .size .nonzero, read c .2), omega (arith, k .some, read c .3))
 
 returns : tie.Need-returns
 unfolding fileByteIn
 returns c =
-    let count = c .before in
-    let size = count .before in
-    let end = size .before in
-    let begin = end .before in
-    let stripe = begin .before in
-    let a = stripe .before .before .args in
-    rw (
-      ← stripe .position-at .ensures .0,
-      begin-at (now (a .s)) (a .at),
-      end-at (now (a .s)) (a .at),
-      stripe-size-at (now (a .s)) (a .at),
-      stripe-count-at (now (a .s)) (a .at),
-      ← begin .u64-at .ensures,
-      ← end .u64-at2 .ensures,
-      ← size .u32-at .ensures,
-      ← count .u16-at .ensures,
-    ) (c .byte-within .ensures)
+    let stripe = c .before .before .before .before .before in
+    let r = read (c .before) in
+    rw (← stripe .position-at .ensures .0, r .0, r .1, r .2, r .3) (c .byte-within .ensures)
 
 pub byte-at-spec : {M : Type 1} → statement M
 byte-at-spec =

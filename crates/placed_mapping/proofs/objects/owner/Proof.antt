@@ -1,6 +1,7 @@
--- `placed_mapping::objects::owner` meets its contract: the position is i and the position among the components from place i on.
+-- `placed_mapping::objects::owner` meets its contract: the position is i and the position among the components from
+-- place i on.
 use Prim.Native.Nat.{_+_, _≤_, _-_}
-use mathlib.Core.Path.{_≡_, refl, sym, _∙_}
+use mathlib.Core.Path.{_≡_, sym, _∙_}
 use mathlib.Core.List.{_∷_}
 use native.Mathlib.Omega.{arith}
 use native.Mathlib.Nat.{zero-add, add-zero}
@@ -67,19 +68,15 @@ has c =
 
 returns : tie.Need-returns Inv-loop μ-loop
 returns c =
-    let turn = c .before .before .before .before in (
-      sym (turn .before .loop .inv .1
-          ∙ rw (next turn, has (c .before) ∙ lt-ltb _ _ (c .if1 .taken)) (add-zero _)),
-      omega arith,
-    )
+    let turn = c .before .before .before .before in
+    let below = lt-ltb (c .before .before .position-at .result) (c .before .record-count .result) (omega arith) in
+    (sym (turn .before .loop .inv .1 ∙ rw (next turn, has (c .before) ∙ below) (add-zero _)), omega arith)
 
 loop-again : tie.Need-loop-again Inv-loop μ-loop
 loop-again c =
-    let turn = c .before .before .before .before in (
-      omega arith,
-      turn .before .loop .inv .1
-          ∙ rw (next turn, has (c .before) ∙ le-ltb _ _ (c .if1 .left)) (omega arith),
-    )
+    let turn = c .before .before .before .before in
+    let not-below = le-ltb (c .before .before .position-at .result) (c .before .record-count .result) (omega arith) in
+    (omega arith, turn .before .loop .inv .1 ∙ rw (next turn, has (c .before) ∙ not-below) (omega arith))
 
 returns-2 : tie.Need-returns-2 Inv-loop μ-loop
 returns-2 c =

@@ -1,15 +1,14 @@
--- `placed_mapping::objects::position_at` meets its contract: the position is i and the position among the records from i on.
-use Prim.Native.Nat.{_+_, _*_, _-_, _≤_, min}
-use mathlib.Core.Path.{_≡_, sym, ap, _∙_}
-use mathlib.Core.List.{List, _∷_}
+-- `placed_mapping::objects::position_at` meets its contract: the position is i and the position among the object
+-- records from i on.
+use Prim.Native.Nat.{_+_, _*_, _-_, _≤_}
+use mathlib.Core.Path.{_≡_, sym, _∙_}
+use mathlib.Core.List.{_∷_}
 use native.Mathlib.Omega.{arith}
 use native.Mathlib.Nat.{zero-add, add-zero, sub-zero}
 use denote.Ref.{now}
 use borrow.Author.Needs.{needs}
-use Rattle.layout.specs.declared.Object.{Object}
 use Rattle.layout.specs.Records.{recordsOf}
 use Rattle.layout.specs.Rows.{objectOf}
-use Rattle.page.specs.Form.{recordsAt}
 use Rattle.page.specs.Content.{objectAt, objectsAt, componentAt}
 use Rattle.page.proofs.Turns.{objects-at-turn, objects-at-done}
 use Rattle.in_place.specs.RecordLaws.{component-records}
@@ -28,11 +27,11 @@ abbrev μ-loop : tie.MeasureT-loop
 
 loop-holds : tie.Need-loop-holds Inv-loop μ-loop
 loop-holds c =
-    let a = c .before .before .args in
     (search needs, rw (component-records, ← c .record-count .ensures .0, zero-add, add-zero, sub-zero))
 
 -- The object records from i on are record i and those behind it.
-next : (c : tie.In-loop Inv-loop μ-loop) → let i = c .before .loop .i in let n = c .before .before .record-count .result in
+next : (c : tie.In-loop Inv-loop μ-loop) → let i = c .before .loop .i in
+    let n = c .before .before .record-count .result in
     let a = c .before .before .before .before .args in
     objectsAt (n - i) (now (a .s)) (a .at + 40 + 16 * i)
     ≡ objectAt (now (a .s)) (a .at + 40 + 16 * i) ∷ objectsAt (n - (i + 1)) (now (a .s)) (a .at + 40 + 16 * (i + 1))
@@ -63,7 +62,8 @@ returns-2 : tie.Need-returns-2 Inv-loop μ-loop
 returns-2 c =
     let p = c .before in
     let a = p .before .before .before .args in
-    let done = objects-at-done (now (a .s)) (a .at + 40) (p .before .record-count .result) (p .loop .i) (c .loop-test .left) in
+    let n = p .before .record-count .result in
+    let done = objects-at-done (now (a .s)) (a .at + 40) n (p .loop .i) (c .loop-test .left) in
     (sym (p .loop .inv .1 ∙ rw done (add-zero _)), omega arith)
 
 pub position-at-spec : {M : Type 1} → statement M

@@ -63,8 +63,7 @@ pub extern "C" fn moorsickle_back(
     if read.refusal != 0 {
         return read.refusal as u32;
     }
-    let found =
-        placed_mapping::objects::back(pages, &places, read.count, target, number, byte);
+    let found = placed_mapping::objects::back(pages, &places, read.count, target, number, byte);
     lent::put_offset(found, offset)
 }
 

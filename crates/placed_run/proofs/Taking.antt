@@ -38,9 +38,10 @@ not-chosen false r n e h z = refl
 module _ (s : List ℕ) (p : Progress) (places : List ℕ) (k : Kept s p places) where
   -- No bytes are left.
   pub gives-1 : length s ≤ p .at → Gives s p places (numbered 1 p) places
-  gives-1 h =
-      (says-refused s p places k places refl (k .room) 1 (next-1 s p places k h) (omega arith),
-      kept-refused s p places k places refl (k .room) 1)
+  gives-1 h = (
+    says-refused s p places k places refl (k .room) 1 (next-1 s p places k h) (omega arith),
+    kept-refused s p places k places refl (k .room) 1,
+  )
 
   module _ (h : p .at < length s) (after : List ℕ) (r : ℕ) where
     abbrev rest : List ℕ
@@ -137,8 +138,9 @@ module _ (s : List ℕ) (p : Progress) (places : List ℕ) (k : Kept s p places)
                       more = head .more;
                       count = p .count + head .count;
                     } in
-                    let all = all-places s p places k formed fits in
-                    (rw (next-taken s (placedOf p places) (sym (o ∙ asked) ∙ z), ended, counts, stored, all, e),
-                    subst (Kept s q) (sym stored)
-                    (kept-taken s p places k formed fits q (ap (λ (x : ℕ). p .at + x) ended) refl
-                    (ap (λ (x : ℕ). p .count + x) counts)))
+                    let all = all-places s p places k formed fits in (
+                      rw (next-taken s (placedOf p places) (sym (o ∙ asked) ∙ z), ended, counts, stored, all, e),
+                      subst (Kept s q) (sym stored)
+                          (kept-taken s p places k formed fits q (ap (λ (x : ℕ). p .at + x) ended) refl
+                          (ap (λ (x : ℕ). p .count + x) counts)),
+                    )

@@ -93,9 +93,12 @@ add-t8 : tie.Need-add-t8
 add-t8 c =
     let w = c .before .before .before .before .before .before .before .before .before .before .before in
     let s = w .before .before .before .before .before in
-    omega (arith, ends-by (now (s .args .s)) (s .args .p) (now (s .args .places)) (s .pre) (w .before .before .if1 .left) _
-    (w .walk-next .result) (w .walk-next .ensures)
-    (some (c .before .before .before .before .before .before .before .before .before .before)))
+    omega (
+      arith,
+      ends-by (now (s .args .s)) (s .args .p) (now (s .args .places)) (s .pre) (w .before .before .if1 .left) _
+          (w .walk-next .result) (w .walk-next .ensures)
+          (some (c .before .before .before .before .before .before .before .before .before .before)),
+    )
 
 returns-6 : tie.Need-returns-6
 returns-6 c =

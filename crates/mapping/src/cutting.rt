@@ -168,7 +168,7 @@ fn put_pieces(room: &mut [u64], spans: [Span; 16], n: usize, offset: u64, stop: 
 }
 
 // Cuts a request by n components of which the last ends at `end`; refused by 9, 10, 11 or 12: all lent numbers then
-// stay. A caller that has no layout, only bytes, cuts by this.
+// stay.
 pub fn cut_spans(
     spans: [Span; 16],
     n: usize,

@@ -10,12 +10,12 @@ use Rattle.in_place.proofs.distinct.many_differ.Tie as tie
 
 returns : tie.Need-returns
 returns c =
-    let q = c .before .before .before .before .before .put-all in
-    let s = c .before .before .before .before .before .before .before .before .before in
+    let q = c .before .before .before .before .before .before .before .put-all in
+    let s = c .before .before .before .before .before .before .before .before .before .before .before in
     let os = recordsIn (componentsAt (now (s .args .s)) (take (s .args .n) (now (s .args .places)))) in
     scanned (replicate 256 0) (replicate 256 0) (q .last .1 .1 .1 .0) (q .last .1 .1 .1 .1 .0) os (q .result)
-    (c .object-repeat .result) (s .pre .2) (s .pre .2) (q .ensures .0) (q .ensures .1) (q .ensures .2)
-    (c .object-repeat .ensures)
+    (c .before .object-repeat .result) (s .pre .2) (s .pre .2) (q .ensures .0) (q .ensures .1) (q .ensures .2)
+    (c .before .object-repeat .ensures)
 
 pub many-differ-spec : {M : Type 1} → statement M
-many-differ-spec = tie.close (tie.spec (λ c. search needs) (λ c. search needs) (λ c κs. search needs) (λ c. search needs) (λ c. search needs) (λ c κs. search needs) returns)
+many-differ-spec = tie.close (tie.spec (λ c. search needs) (λ c. search needs) (λ c κs. search needs) (λ c. search needs) (λ c. search needs) (λ c. search needs) (λ c κs. search needs) returns)

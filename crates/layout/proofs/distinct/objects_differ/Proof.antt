@@ -31,28 +31,30 @@ rows c =
 
 object-repeat-requires : tie.Need-object-repeat-requires
 object-repeat-requires c κs =
-    let two = c .before .before .before .before .put-all2 in
-    let one = c .before .before .before .before .before .before .before .before .before .put-all in
-    let s = c .before .before .before .before .before .before .before .before .before .before .before .before in
+    let two = c .before .before .before .before .before .put-all2 in
+    let one = c .before .before .before .before .before .before .before .before .before .before .put-all in
+    let s = c .before .before .before .before .before .before .before .before .before .before .before .before .before in
     let l = s .args .l in
     let e = take-take (s .args .from) (l .count) (l .components) (s .pre .0) in
     let k : one .result ≡ length (recordsIn (take (s .args .from) (l .components))) = omega (arith, one .ensures .0) in (
       omega arith,
       omega arith,
       omega (arith, one .ensures .0, two .ensures .0),
-      rw (rows c, k) (rw e at (s .pre .2)),
+      rw (rows (c .before), k) (rw e at (s .pre .2)),
+      omega arith,
     )
 
 returns : tie.Need-returns
 returns c =
-    let two = c .before .before .before .before .before .put-all2 in
-    let one = c .before .before .before .before .before .before .before .before .before .before .put-all in
-    let s = c .before .before .before .before .before .before .before .before .before .before .before .before .before in
+    let two = c .before .before .before .before .before .before .before .put-all2 in
+    let one = c .before .before .before .before .before .before .before .before .before .before .before .before .put-all in
+    let s = c .before .before .before .before .before .before .before .before .before .before .before .before .before .before .before in
     let l = s .args .l in
-    let r = c .object-repeat .ensures ∙ ap (λ (os : List Object). firstFailed (fresh sameObject os)) (rows (c .before)) in
+    let r = c .before .object-repeat .ensures
+    ∙ ap (λ (os : List Object). firstFailed (fresh sameObject os)) (rows (c .before .before .before)) in
     let n = gathered-length (l .components) (s .args .from) (l .count) (one .result) (two .result) (s .pre .0) (one .ensures .0) (two .ensures .0)
     ∙ sym (length-along (unseen sameObject) seenWith _ (recordsIn (view l))) in
-    failed-every (objectTests (view l)) (c .object-repeat .result) (two .result) r (sym n)
+    failed-every (objectTests (view l)) (c .before .object-repeat .result) (two .result) r (sym n)
 
 pub objects-differ-spec : {M : Type 1} → statement M
-objects-differ-spec = tie.close (tie.spec (λ c. search needs) (λ c. search needs) (λ c κs. search needs) (λ c. search needs) (λ c. search needs) (λ c κs. search needs) (λ c. search needs) (λ c. search needs) object-repeat-requires returns)
+objects-differ-spec = tie.close (tie.spec (λ c. search needs) (λ c. search needs) (λ c κs. search needs) (λ c. search needs) (λ c. search needs) (λ c κs. search needs) (λ c. search needs) (λ c. search needs) (λ c. search needs) object-repeat-requires returns)

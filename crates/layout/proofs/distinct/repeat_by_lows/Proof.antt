@@ -1,0 +1,109 @@
+-- `layout::distinct::repeat_by_lows` meets its contract: outside, the position is `later` and that among the records from there
+-- on; inside, the record is asked of those from `earlier` to `later`, or of none where its low half equals none of theirs.
+use Prim.Native.Nat.{suc, _+_, _≤_, _<_, _-_}
+use mathlib.Core.Path.{_≡_, sym, _∙_}
+use native.Mathlib.Omega.{arith}
+use lib.ListN.{length, take}
+use lib.Seq.{slice}
+use denote.Ref.{now}
+use Rattle.lists.specs.Tests.{firstFailed, along}
+use Rattle.lists.specs.Counting.{elem, fresh, unseen, seenWith}
+use Rattle.lists.specs.Loops.{scan-start, scan-pass, scan-hit, scan-done, row-pass, row-hit, row-done}
+use Rattle.layout.specs.Records.{noObject}
+use Rattle.layout.specs.Rows.{objectOf, named, getD-named, length-named}
+use Rattle.layout.specs.LowLaws.{row-known}
+use Rattle.layout.specs.Distinct.{sameObject}
+use borrow.Author.Needs.{needs}
+use Rattle.layout.proofs.distinct.repeat_by_lows.Statement.{statement}
+use Rattle.layout.proofs.distinct.repeat_by_lows.Tie as tie
+
+abbrev Inv-loop : tie.InvT-loop
+Inv-loop targets numbers lows n from later target number earlier₀ earlier =
+    (earlier ≤ later)
+    × (elem sameObject (objectOf target number) (take later (named targets numbers)) ≡ elem sameObject (objectOf target number) (slice earlier later (named targets numbers)))
+
+abbrev μ-loop : tie.MeasureT-loop
+μ-loop targets numbers lows n from later target number earlier₀ earlier = later - earlier
+
+abbrev Inv-scan : tie.InvT-scan
+Inv-scan targets numbers lows n from later₀ later =
+    (later ≤ n)
+    × (firstFailed (fresh sameObject (take n (named targets numbers))) ≡ later + firstFailed (along (unseen sameObject) seenWith (take later (named targets numbers)) (slice later n (named targets numbers))))
+
+abbrev μ-scan : tie.MeasureT-scan
+μ-scan targets numbers lows n from later₀ later = n - later
+
+scan-holds : tie.Need-scan-holds Inv-loop μ-loop Inv-scan μ-scan
+scan-holds c =
+    let s = c .before .before .before in
+    let a = s .args in (
+      search needs,
+      scan-start sameObject (named (now (a .targets)) (now (a .numbers))) (a .n) (a .from) (s .pre .2)
+          (length-named (now (a .targets)) (now (a .numbers)) (a .n) (s .pre .0) (s .pre .1)) (s .pre .3),
+    )
+
+loop-holds : tie.Need-loop-holds Inv-loop μ-loop Inv-scan μ-scan
+loop-holds c =
+    let q = c .before .before .before .before in
+    let s = q .before .before .before .before in
+    let a = s .args in
+    row-known (now (a .targets)) (now (a .numbers)) (now (a .lows)) (a .n) (q .scan .later) (c .before .before .before .scan-test .taken)
+    (s .pre .1) (s .pre .5) _ (c .row-start .result) (c .row-start .ensures)
+
+loop-again : tie.Need-loop-again Inv-loop μ-loop Inv-scan μ-scan
+loop-again c =
+    let p = c .before .before .before .before .before in
+    let q = p .before .before .before .before .before in
+    let a = q .before .before .before .before .args in
+    let ts = now (a .targets) in
+    let ns = now (a .numbers) in
+    let t : p .loop .earlier < length ts = omega arith in
+    let n : p .loop .earlier < length ns = omega arith in (
+      omega arith,
+      p .loop .inv .1 ∙ row-pass sameObject (named ts ns) (q .scan .later) (p .loop .earlier) _ noObject
+          (c .before .before .before .before .loop-test .taken) (length-named ts ns (suc (p .loop .earlier)) t n)
+          (rw (getD-named ts ns (p .loop .earlier) t n) (sym (c .before .same-object .ensures) ∙ c .if1 .left)),
+    )
+
+scan-again : tie.Need-scan-again Inv-loop μ-loop Inv-scan μ-scan
+scan-again c =
+    let p = c .before in
+    let q = p .before .before .before .before .before in
+    let a = q .before .before .before .before .args in
+    let ts = now (a .targets) in
+    let ns = now (a .numbers) in
+    let t : q .scan .later < length ts = omega arith in
+    let n : q .scan .later < length ns = omega arith in (
+      omega arith,
+      q .scan .inv .1 ∙ scan-pass sameObject (named ts ns) (a .n) (q .scan .later) noObject
+          (p .before .before .before .before .scan-test .taken) (length-named ts ns (suc (q .scan .later)) t n)
+          (rw (getD-named ts ns (q .scan .later) t n)
+          (p .loop .inv .1 ∙ row-done sameObject (named ts ns) (q .scan .later) (p .loop .earlier) _ (c .loop-test .left))),
+    )
+
+returns : tie.Need-returns Inv-loop μ-loop Inv-scan μ-scan
+returns c =
+    let q = c .before in
+    let a = q .before .before .before .before .args in
+    sym (q .scan .inv .1 ∙ scan-done sameObject (named (now (a .targets)) (now (a .numbers))) (a .n) (q .scan .later) (c .scan-test .left))
+
+returns-2 : tie.Need-returns-2 Inv-loop μ-loop Inv-scan μ-scan
+returns-2 c =
+    let p = c .before .before .before .before .before in
+    let q = p .before .before .before .before .before in
+    let a = q .before .before .before .before .args in
+    let ts = now (a .targets) in
+    let ns = now (a .numbers) in
+    let t : q .scan .later < length ts = omega arith in
+    let n : q .scan .later < length ns = omega arith in
+    let t' : p .loop .earlier < length ts = omega arith in
+    let n' : p .loop .earlier < length ns = omega arith in
+    sym (q .scan .inv .1 ∙ scan-hit sameObject (named ts ns) (a .n) (q .scan .later) noObject
+    (p .before .before .before .before .scan-test .taken) (length-named ts ns (suc (q .scan .later)) t n)
+    (rw (getD-named ts ns (q .scan .later) t n)
+    (p .loop .inv .1 ∙ row-hit sameObject (named ts ns) (q .scan .later) (p .loop .earlier) _ noObject
+    (c .before .before .before .before .loop-test .taken) (length-named ts ns (suc (p .loop .earlier)) t' n')
+    (rw (getD-named ts ns (p .loop .earlier) t' n') (sym (c .before .same-object .ensures) ∙ c .if1 .taken)))))
+
+pub repeat-by-lows-spec : {M : Type 1} → statement M
+repeat-by-lows-spec = tie.close (tie.spec Inv-loop μ-loop Inv-scan μ-scan scan-holds (λ c. search needs) (λ c. search needs) (λ c. search needs) (λ c. search needs) (λ c κs. search needs) loop-holds (λ c. search needs) (λ c. search needs) (λ c. search needs) (λ c. search needs) (λ c κs. search needs) (λ c. search needs) (λ c. search needs) loop-again (λ c. search needs) (λ c. search needs) scan-again returns returns-2)

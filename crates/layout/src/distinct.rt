@@ -63,8 +63,9 @@ fn put_lows(numbers: &[u64], n: usize, lows: &mut [u32])
     }
 }
 
-// The place from which on the record at place i is asked of those before it: i where its low half equals none of theirs,
-// so that none is asked, else 0. The loop has one way out, so that it is compiled to few instructions for many places.
+// The place from which on the record at place i is asked of those before it: i where its low half equals none of
+// theirs, so that none is asked, else 0. The loop has one way out, so that it is compiled to few instructions for many
+// places.
 fn row_start(lows: &[u32], i: usize) -> usize
     requires { ⌜ i < length (now lows) ⌝ }
     ensures { λ r. ⌜ r ≡ cond (elem eqb (getD (now (lows .entry)) i 0) (take i (now (lows .entry)))) 0 i ⌝ }

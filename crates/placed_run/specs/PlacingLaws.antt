@@ -77,6 +77,15 @@ module _ (s : List ℕ) where
       (a .0 ++ b .0, rw e (b .1 ∙ rw (a .1) (append-assoc (p .places) (a .0) (b .0)))))
       (λ e. ([], rw e (sym (append-nil (p .places)))))
 
+  -- The number at the end, where the components of the pages taken are distinct, and where they are not.
+  placed-distinct : (q : Placed) → distinctHold (componentsAt s (q .places)) ≡ true → placedRefusal s q ≡ endRefusal s q
+  unfolding placedRefusal
+  placed-distinct q e = ap (λ (b : Bool). cond b (endRefusal s q) 8) e
+
+  placed-repeat : (q : Placed) → distinctHold (componentsAt s (q .places)) ≡ false → placedRefusal s q ≡ 8
+  unfolding placedRefusal
+  placed-repeat q e = ap (λ (b : Bool). cond b (endRefusal s q) 8) e
+
   -- A collector and a reading in place that have taken the same pages, none of them refused.
   pub record Matches (c : Collector) (p : Placed) : Type 0 where
     pub held : Held c
@@ -106,34 +115,37 @@ module _ (s : List ℕ) where
 
     -- No page is wanted.
     end-closed : p .more ≡ false → EndAlike (readFrom hostCut c rest) p
-    unfolding placedRefusal
     end-closed e =
         let done : c .complete ≡ true = m .complete ∙ rw e in
         let n = length-drop (p .at) s in
         let r = read-closed c (m .held) hostCut rest done in
+        let number = placed-distinct p distinct-old in
         bool-cases (leb (length s) (p .at))
         (λ w. let h : length s ≤ p .at = leb-true (length s) (p .at) w in
         let z = r ∙ closed-none c rest (omega arith) in
+        let end : endRefusal s p ≡ 0 = rw (m .taken, w) in
         record {
-          refusal = rw (z, distinct-old, m .taken, w);
+          refusal = ap (λ (x : Reading). x .refusal) z ∙ sym (number ∙ end);
           layout = λ x. rw (z, m .generation, m .components);
         })
         (λ w. let h : p .at < length s = leb-false (length s) (p .at) w in
         let z = r ∙ closed-more c rest (omega arith) in
+        let end : endRefusal s p ≡ 2 = rw (m .taken, w) in
         record {
-          refusal = rw (z, distinct-old, m .taken, w);
+          refusal = ap (λ (x : Reading). x .refusal) z ∙ sym (number ∙ end);
           layout = λ x. let y : 2 ≡ 0 = rw z at x in absurd (omega arith);
         })
 
     -- The next page is refused by a number that is not of distinctness.
     end-refused : (left n : ℕ) → 0 < n → readFrom hostCut c rest ≡ refusedAt n (c .pages)
         → EndAlike (readFrom hostCut c rest) (placedOn left s (refusedBy n p))
-    unfolding placedRefusal
     end-refused left n h e =
         let z : eqb n 0 ≡ false = ne-eqb n 0 (λ x. omega arith) in
         let stays = placed-stays left (refusedBy n p) (rw (z, and-false (p .more))) in
+        let end : endRefusal s (refusedBy n p) ≡ n = rw z in
+        let number : placedRefusal s (refusedBy n p) ≡ n = placed-distinct (refusedBy n p) distinct-old ∙ end in
         record {
-          refusal = rw (e, stays, distinct-old, z);
+          refusal = ap (λ (x : Reading). x .refusal) e ∙ sym (ap (placedRefusal s) stays ∙ number);
           layout = λ x. let y : n ≡ 0 = rw e at x in absurd (omega arith);
         }
 
@@ -251,7 +263,6 @@ module _ (s : List ℕ) where
       -- Refused by 8: the components stay among those that are read in place, and are not distinct at the end.
       end-repeat : (left : ℕ) → nextRefusal s p ≡ 0 → distinctHold (gathered c ++ new) ≡ false
           → EndAlike (readFrom hostCut c rest) (placedOn left s (withPage s p))
-      unfolding placedRefusal
       end-repeat left h f =
           let full : contentRefusal c (headOf rest) new ≡ 8 = full-rest h ∙ rw f in
           let r = full-refused 8 full (omega arith) in
@@ -266,7 +277,7 @@ module _ (s : List ℕ) where
           (λ e. clash (distinct-first (gathered c ++ new) (componentsAt s (a .0)) (rw all at e)) f)
           (λ e. e) in
           record {
-            refusal = rw (r, repeat);
+            refusal = ap (λ (x : Reading). x .refusal) r ∙ sym (placed-repeat q repeat);
             layout = λ x. let y : _≡_ {A = ℕ} 8 0 = rw r at x in absurd (omega arith);
           }
 

@@ -1,5 +1,5 @@
-// Reads the host's pages in place. The pages stand back to back, each ending after the records that its head counts. What is
-// noted of a page is where its components stand in the bytes; no component is copied.
+// Reads the host's pages in place. The pages stand back to back, each ending after the records that its head counts.
+// What is noted of a page is where its components stand in the bytes; no component is copied.
 use page::Head;
 ghost use mathlib.Core.Path.{_≡_};
 ghost use mathlib.Core.List.{List};
@@ -11,8 +11,8 @@ ghost use Rattle.placed_run.specs.Placing.{placedNext, placedRun, endRef
 ghost use Rattle.placed_run.specs.Progress.{placedOf, Kept, numbered};
 ghost use Rattle.placed_run.specs.Found.{Finds};
 
-// How far a reading has come: the number of a refusal, or 0; where the next page begins; the number of pages taken; their
-// generation; whether more pages are wanted; and how many components the pages taken have.
+// How far a reading has come: the number of a refusal, or 0; where the next page begins; the number of pages taken;
+// their generation; whether more pages are wanted; and how many components the pages taken have.
 pub struct Progress {
     pub refusal: u8,
     pub at: usize,
@@ -22,8 +22,8 @@ pub struct Progress {
     pub count: usize,
 }
 
-// What reading gives: 0, the generation, and the number of components, whose places then stand in the first positions; or the
-// number of the refusal.
+// What reading gives: 0, the generation, and the number of components, whose places then stand in the first positions;
+// or the number of the refusal.
 pub struct Found {
     pub refusal: u8,
     pub generation: u32,
@@ -40,9 +40,9 @@ fn note(places: &mut [usize; 16], i: usize, place: usize)
     }
 }
 
-// Walks over the page that the bytes begin with and that is to end by the limit, and stores the places of its components from
-// position n on, as far as there are positions. `base` bytes stand before the page, and places are counted from the first of
-// them. Gives where the page ends, or 0 where it has not its form.
+// Walks over the page that the bytes begin with and that is to end by the limit, and stores the places of its
+// components from position n on, as far as there are positions. `base` bytes stand before the page, and places are
+// counted from the first of them. Gives where the page ends, or 0 where it has not its form.
 fn walk_onto(s: &[u8], limit: usize, base: usize, n: usize, places: &mut [usize; 16]) -> usize
     requires { ⌜ (limit ≤ length (now s))
         × (limit ≤ 512)
@@ -81,8 +81,9 @@ fn walk_onto(s: &[u8], limit: usize, base: usize, n: usize, places: &mut [usize;
     at
 }
 
-// Walks over the page that begins at `at` and stores the places of its components from position n on, as far as there are
-// positions. Gives how many bytes the page has, or 0 where it has not its form: also where it would have more than 512.
+// Walks over the page that begins at `at` and stores the places of its components from position n on, as far as there
+// are positions. Gives how many bytes the page has, or 0 where it has not its form: also where it would have more than
+// 512.
 fn walk_next(s: &[u8], at: usize, n: usize, places: &mut [usize; 16]) -> usize
     requires { ⌜ (at ≤ length (now s)) × (n ≤ 16) × (length (now places) ≡ 16) ⌝ }
     ensures { λ r. ⌜ (let t = drop at (now (s .entry)) in
@@ -116,8 +117,9 @@ fn refused(p: Progress, number: u8) -> Progress
     }
 }
 
-// Takes the page that begins where the reading has come to. Refused by 1 where no bytes are left, by 3 to 5 as a collector
-// refuses it, and by 6 or 7 where its components break the rules of fields or of neighbours behind those taken before.
+// Takes the page that begins where the reading has come to. Refused by 1 where no bytes are left, by 3 to 5 as a
+// collector refuses it, and by 6 or 7 where its components break the rules of fields or of neighbours behind those
+// taken before.
 fn take_next(s: &[u8], p: Progress, places: &mut [usize; 16]) -> Progress
     requires { ⌜ Kept (now s) p (now places) ⌝ }
     ensures { λ r. ⌜ (placedOf r (now (places .exit))
@@ -173,8 +175,8 @@ fn read_on(s: &[u8], places: &mut [usize; 16]) -> Progress
     p
 }
 
-// The number of the refusal of a reading that wants no more pages, or 0: that of a page, else 2 where bytes stand behind the last
-// page.
+// The number of the refusal of a reading that wants no more pages, or 0: that of a page, else 2 where bytes stand
+// behind the last page.
 fn end_refusal(s: &[u8], p: Progress) -> u8
     ensures { λ r. ⌜ ((places : List ℕ) → r ≡ endRefusal (now (s .entry)) (placedOf p places)) ⌝ }
 {

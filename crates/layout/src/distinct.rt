@@ -85,13 +85,7 @@ fn row_start(lows: &[u32], i: usize) -> usize
 
 // The position of the first of n object records that names the target and number of one before it, or n. The tests of
 // the first `from` are known to pass; `lows` holds the low halves of the numbers.
-fn repeat_by_lows(
-    targets: &[u32],
-    numbers: &[u64],
-    lows: &[u32],
-    n: usize,
-    from: usize,
-) -> usize
+fn repeat_by_lows(targets: &[u32], numbers: &[u64], lows: &[u32], n: usize, from: usize) -> usize
     requires { ⌜ (n ≤ length (now targets))
         × (n ≤ length (now numbers))
         × (from ≤ n)

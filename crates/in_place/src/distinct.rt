@@ -107,9 +107,9 @@ fn few_differ(s: &[u8], places: &[usize; 16], n: usize) -> bool
 {
     let mut targets = [0u32; 32];
     let mut numbers = [0u64; 32];
-    let mut lows = [0u32; 32];
+    let mut keys = [0u16; 32];
     let all = put_all(s, places, n, &mut targets, &mut numbers);
-    layout::distinct::object_repeat(&targets, &numbers, &mut lows, all, 0) == all
+    layout::distinct::object_repeat(&targets, &numbers, &mut keys, all, 0) == all
 }
 
 // The same of at most 256.
@@ -121,9 +121,9 @@ fn many_differ(s: &[u8], places: &[usize; 16], n: usize) -> bool
 {
     let mut targets = [0u32; 256];
     let mut numbers = [0u64; 256];
-    let mut lows = [0u32; 256];
+    let mut keys = [0u16; 256];
     let all = put_all(s, places, n, &mut targets, &mut numbers);
-    layout::distinct::object_repeat(&targets, &numbers, &mut lows, all, 0) == all
+    layout::distinct::object_repeat(&targets, &numbers, &mut keys, all, 0) == all
 }
 
 // Do the object records of the components at the first n places differ?

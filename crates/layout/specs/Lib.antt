@@ -12,5 +12,5 @@ pub mod HolderLaws
 pub mod ArrayLaws
 pub mod RecordLaws
 pub mod Rows
-pub mod LowLaws
+pub mod KeyLaws
 pub mod Samples

@@ -1,5 +1,5 @@
 -- Object records as two rows of numbers, their targets and their numbers, at the same places.
-use Prim.Native.Nat.{ℕ, zero, suc, _%_, _≤_, _<_}
+use Prim.Native.Nat.{ℕ, zero, suc, _+_, _*_, _%_, _≤_, _<_}
 use mathlib.Core.Path.{_≡_, refl, ap}
 use mathlib.Core.List.{List, [], _∷_, map}
 use native.Mathlib.Omega.{arith}
@@ -35,13 +35,13 @@ named [] ns = []
 named (t ∷ ts) [] = []
 named (t ∷ ts) (n ∷ ns) = objectOf t n ∷ named ts ns
 
--- The low half of a number: what is left of it after division by 2^32.
-abbrev pub lowHalf : ℕ → ℕ
-lowHalf n = n % 4294967296
+-- A key of an object record, below 65,536. Records with different keys are different.
+unfoldable pub keyOf : Object → ℕ
+keyOf o = (o .number % 65536 + 257 * (o .target % 65536)) % 65536
 
--- The row of the low halves of numbers.
-abbrev pub lowsOf : List ℕ → List ℕ
-lowsOf ns = map lowHalf ns
+-- The row of the keys of object records.
+abbrev pub keysOf : List Object → List ℕ
+keysOf os = map keyOf os
 
 -- The object record at a place of both rows.
 pub getD-named : (ts ns : List ℕ) (i : ℕ) → i < length ts → i < length ns

@@ -1,6 +1,6 @@
 // Distinctness (refusal 8): ids, and object records anywhere in the layout. The object records are gathered once into
-// two dense rows, of targets and of numbers, and the rows are scanned. A third row has the low halves of the numbers: a
-// record whose low half equals none before it is asked of none.
+// two dense rows, of targets and of numbers, and the rows are scanned. A third row has a short
+// key of each record: a record whose key equals none before it is asked of none.
 use crate::Component;
 use crate::Layout;
 use crate::fields;
@@ -13,7 +13,7 @@ ghost use lib.Seq.{sets, slice};
 ghost use Rattle.lists.specs.Tests.{every, firstFailed};
 ghost use Rattle.lists.specs.Counting.{fresh, elem};
 ghost use Rattle.layout.specs.Records.{view, recordsOf, recordsIn};
-ghost use Rattle.layout.specs.Rows.{targetsOf, numbersOf, objectOf, named, lowHalf, lowsOf};
+ghost use Rattle.layout.specs.Rows.{targetsOf, numbersOf, objectOf, named, keyOf, keysOf};
 ghost use Rattle.layout.specs.Distinct.{sameObject, objectTests};
 ghost use Rattle.layout.specs.Known.{Passed};
 
@@ -44,37 +44,37 @@ pub fn same_object(target: u32, number: u64, other_target: u32, other_number: u6
     (target == other_target) & (number == other_number)
 }
 
-// The low half of a number.
-fn low_half(number: u64) -> u32
-    ensures { λ r. ⌜ r ≡ lowHalf number ⌝ }
+// The key of an object record.
+fn key_of(target: u32, number: u64) -> u16
+    ensures { λ r. ⌜ r ≡ keyOf (objectOf target number) ⌝ }
 {
-    (number % 4294967296) as u32
+    ((number % 65536 + 257 * (target as u64 % 65536)) % 65536) as u16
 }
 
-// Stores the low halves of the first n numbers in the first places of a row.
-fn put_lows(numbers: &[u64], n: usize, lows: &mut [u32])
-    requires { ⌜ (n ≤ length (now numbers)) × (n ≤ length (now lows)) ⌝ }
-    ensures { λ _. ⌜ now (lows .exit) ≡ sets (now (lows .entry)) 0 (lowsOf (take n (now (numbers .entry)))) ⌝ }
+// Stores the keys of the first n object records in the first places of a row.
+fn put_keys(targets: &[u32], numbers: &[u64], n: usize, keys: &mut [u16])
+    requires { ⌜ (n ≤ length (now targets)) × (n ≤ length (now numbers)) × (n ≤ length (now keys)) ⌝ }
+    ensures { λ _. ⌜ now (keys .exit)
+        ≡ sets (now (keys .entry)) 0 (keysOf (take n (named (now (targets .entry)) (now (numbers .entry))))) ⌝ }
 {
     let mut i: usize = 0;
     while i < n {
-        lows[i] = low_half(numbers[i]);
+        keys[i] = key_of(targets[i], numbers[i]);
         i += 1;
     }
 }
 
-// The place from which on the record at place i is asked of those before it: i where its low half equals none of
-// theirs, so that none is asked, else 0. The loop has one way out, so that it is compiled to few instructions for many
-// places.
-fn row_start(lows: &[u32], i: usize) -> usize
-    requires { ⌜ i < length (now lows) ⌝ }
-    ensures { λ r. ⌜ r ≡ cond (elem eqb (getD (now (lows .entry)) i 0) (take i (now (lows .entry)))) 0 i ⌝ }
+// The place from which on the record at place i is asked of those before it: i where its key equals none of theirs, so
+// that none is asked, else 0. The loop has one way out, so that it is compiled to few instructions for many places.
+fn row_start(keys: &[u16], i: usize) -> usize
+    requires { ⌜ i < length (now keys) ⌝ }
+    ensures { λ r. ⌜ r ≡ cond (elem eqb (getD (now (keys .entry)) i 0) (take i (now (keys .entry)))) 0 i ⌝ }
 {
-    let low = lows[i];
+    let key = keys[i];
     let mut alike = false;
     let mut j: usize = 0;
     while j < i {
-        alike = alike | (low == lows[j]);
+        alike = alike | (key == keys[j]);
         j += 1;
     }
     if alike {
@@ -84,14 +84,14 @@ fn row_start(lows: &[u32], i: usize) -> usize
 }
 
 // The position of the first of n object records that names the target and number of one before it, or n. The tests of
-// the first `from` are known to pass; `lows` holds the low halves of the numbers.
-fn repeat_by_lows(targets: &[u32], numbers: &[u64], lows: &[u32], n: usize, from: usize) -> usize
+// the first `from` are known to pass; `keys` holds the keys of the records.
+fn repeat_by_keys(targets: &[u32], numbers: &[u64], keys: &[u16], n: usize, from: usize) -> usize
     requires { ⌜ (n ≤ length (now targets))
         × (n ≤ length (now numbers))
         × (from ≤ n)
         × (every (take from (fresh sameObject (take n (named (now targets) (now numbers))))) ≡ true)
-        × (n ≤ length (now lows))
-        × (take n (now lows) ≡ lowsOf (take n (now numbers))) ⌝ }
+        × (n ≤ length (now keys))
+        × (take n (now keys) ≡ keysOf (take n (named (now targets) (now numbers)))) ⌝ }
     ensures { λ r. ⌜ r
         ≡ firstFailed (fresh sameObject (take n (named (now (targets .entry)) (now (numbers .entry))))) ⌝ }
 {
@@ -99,7 +99,7 @@ fn repeat_by_lows(targets: &[u32], numbers: &[u64], lows: &[u32], n: usize, from
     'scan: while later < n {
         let target = targets[later];
         let number = numbers[later];
-        let mut earlier = row_start(lows, later);
+        let mut earlier = row_start(keys, later);
         while earlier < later {
             if same_object(target, number, targets[earlier], numbers[earlier]) {
                 break 'scan;
@@ -111,11 +111,11 @@ fn repeat_by_lows(targets: &[u32], numbers: &[u64], lows: &[u32], n: usize, from
     later
 }
 
-// The same, where the low halves are not known yet: `lows` has room for them.
+// The same, where the keys are not known yet: `keys` has room for them.
 pub fn object_repeat(
     targets: &[u32],
     numbers: &[u64],
-    lows: &mut [u32],
+    keys: &mut [u16],
     n: usize,
     from: usize,
 ) -> usize
@@ -123,12 +123,12 @@ pub fn object_repeat(
         × (n ≤ length (now numbers))
         × (from ≤ n)
         × (every (take from (fresh sameObject (take n (named (now targets) (now numbers))))) ≡ true)
-        × (n ≤ length (now lows)) ⌝ }
+        × (n ≤ length (now keys)) ⌝ }
     ensures { λ r. ⌜ r
         ≡ firstFailed (fresh sameObject (take n (named (now (targets .entry)) (now (numbers .entry))))) ⌝ }
 {
-    put_lows(numbers, n, lows);
-    repeat_by_lows(targets, numbers, lows, n, from)
+    put_keys(targets, numbers, n, keys);
+    repeat_by_keys(targets, numbers, keys, n, from)
 }
 
 // Copies the object records of a component to the rows, from place `at` on; gives the place behind them.
@@ -191,8 +191,8 @@ pub fn objects_differ(l: Layout, from: usize) -> bool
     let n = l.count;
     let mut targets = [0u32; 256];
     let mut numbers = [0u64; 256];
-    let mut lows = [0u32; 256];
+    let mut keys = [0u16; 256];
     let known = put_all(l, 0, from, 0, &mut targets, &mut numbers);
     let all = put_all(l, from, n, known, &mut targets, &mut numbers);
-    object_repeat(&targets, &numbers, &mut lows, all, known) == all
+    object_repeat(&targets, &numbers, &mut keys, all, known) == all
 }

@@ -14,10 +14,10 @@ use Rattle.layout.proofs.distinct.row_start.Statement.{statement}
 use Rattle.layout.proofs.distinct.row_start.Tie as tie
 
 abbrev Inv-loop : tie.InvT-loop
-Inv-loop lows i low alike₀ j₀ alike j = (j ≤ i) × (elem eqb low (take i lows) ≡ (alike || elem eqb low (slice j i lows)))
+Inv-loop keys i key alike₀ j₀ alike j = (j ≤ i) × (elem eqb key (take i keys) ≡ (alike || elem eqb key (slice j i keys)))
 
 abbrev μ-loop : tie.MeasureT-loop
-μ-loop lows i low alike₀ j₀ alike j = i - j
+μ-loop keys i key alike₀ j₀ alike j = i - j
 
 loop-holds : tie.Need-loop-holds Inv-loop μ-loop
 loop-holds c = (search needs, refl)
@@ -26,12 +26,12 @@ loop-again : tie.Need-loop-again Inv-loop μ-loop
 loop-again c =
     let p = c .before .before in
     let a = p .before .before .args in
-    let ls = now (a .lows) in
-    let low = getD ls (a .i) 0 in
-    let next = slice-next ls (a .i) (p .loop .j) 0 (c .before .loop-test .taken) (omega arith) in (
+    let ks = now (a .keys) in
+    let key = getD ks (a .i) 0 in
+    let next = slice-next ks (a .i) (p .loop .j) 0 (c .before .loop-test .taken) (omega arith) in (
       omega arith,
       p .loop .inv .1 ∙ rw next
-          (sym (or-assoc (p .loop .alike) (eqb low (getD ls (p .loop .j) 0)) (elem eqb low (slice (p .loop .j + 1) (a .i) ls)))),
+          (sym (or-assoc (p .loop .alike) (eqb key (getD ks (p .loop .j) 0)) (elem eqb key (slice (p .loop .j + 1) (a .i) ks)))),
     )
 
 returns : tie.Need-returns Inv-loop μ-loop
@@ -43,7 +43,7 @@ returns-2 : tie.Need-returns-2 Inv-loop μ-loop
 returns-2 c =
     let p = c .before .before in
     let a = p .before .before .args in
-    rw (p .loop .inv .1, c .if1 .left, slice-done (now (a .lows)) (a .i) (p .loop .j) (c .before .loop-test .left))
+    rw (p .loop .inv .1, c .if1 .left, slice-done (now (a .keys)) (a .i) (p .loop .j) (c .before .loop-test .left))
 
 pub row-start-spec : {M : Type 1} → statement M
 row-start-spec =

@@ -1,5 +1,5 @@
--- `layout::distinct::repeat_by_lows` meets its contract: outside, the position is `later` and that among the records from there
--- on; inside, the record is asked of those from `earlier` to `later`, or of none where its low half equals none of theirs.
+-- `layout::distinct::repeat_by_keys` meets its contract: outside, the position is `later` and that among the records from there
+-- on; inside, the record is asked of those from `earlier` to `later`, or of none where its key equals none of theirs.
 use Prim.Native.Nat.{suc, _+_, _≤_, _<_, _-_}
 use mathlib.Core.Path.{_≡_, sym, _∙_}
 use native.Mathlib.Omega.{arith}
@@ -11,27 +11,27 @@ use Rattle.lists.specs.Counting.{elem, fresh, unseen, seenWith}
 use Rattle.lists.specs.Loops.{scan-start, scan-pass, scan-hit, scan-done, row-pass, row-hit, row-done}
 use Rattle.layout.specs.Records.{noObject}
 use Rattle.layout.specs.Rows.{objectOf, named, getD-named, length-named}
-use Rattle.layout.specs.LowLaws.{row-known}
+use Rattle.layout.specs.KeyLaws.{row-known}
 use Rattle.layout.specs.Distinct.{sameObject}
 use borrow.Author.Needs.{needs}
-use Rattle.layout.proofs.distinct.repeat_by_lows.Statement.{statement}
-use Rattle.layout.proofs.distinct.repeat_by_lows.Tie as tie
+use Rattle.layout.proofs.distinct.repeat_by_keys.Statement.{statement}
+use Rattle.layout.proofs.distinct.repeat_by_keys.Tie as tie
 
 abbrev Inv-loop : tie.InvT-loop
-Inv-loop targets numbers lows n from later target number earlier₀ earlier =
+Inv-loop targets numbers keys n from later target number earlier₀ earlier =
     (earlier ≤ later)
     × (elem sameObject (objectOf target number) (take later (named targets numbers)) ≡ elem sameObject (objectOf target number) (slice earlier later (named targets numbers)))
 
 abbrev μ-loop : tie.MeasureT-loop
-μ-loop targets numbers lows n from later target number earlier₀ earlier = later - earlier
+μ-loop targets numbers keys n from later target number earlier₀ earlier = later - earlier
 
 abbrev Inv-scan : tie.InvT-scan
-Inv-scan targets numbers lows n from later₀ later =
+Inv-scan targets numbers keys n from later₀ later =
     (later ≤ n)
     × (firstFailed (fresh sameObject (take n (named targets numbers))) ≡ later + firstFailed (along (unseen sameObject) seenWith (take later (named targets numbers)) (slice later n (named targets numbers))))
 
 abbrev μ-scan : tie.MeasureT-scan
-μ-scan targets numbers lows n from later₀ later = n - later
+μ-scan targets numbers keys n from later₀ later = n - later
 
 scan-holds : tie.Need-scan-holds Inv-loop μ-loop Inv-scan μ-scan
 scan-holds c =
@@ -47,8 +47,12 @@ loop-holds c =
     let q = c .before .before .before .before in
     let s = q .before .before .before .before in
     let a = s .args in
-    row-known (now (a .targets)) (now (a .numbers)) (now (a .lows)) (a .n) (q .scan .later) (c .before .before .before .scan-test .taken)
-    (s .pre .1) (s .pre .5) _ (c .row-start .result) (c .row-start .ensures)
+    let ts = now (a .targets) in
+    let ns = now (a .numbers) in
+    let later = q .scan .later in
+    row-known (named ts ns) (now (a .keys)) (a .n) later (c .before .before .before .scan-test .taken)
+    (length-named ts ns (a .n) (s .pre .0) (s .pre .1)) (s .pre .5) _ (getD-named ts ns later (omega arith) (omega arith))
+    (c .row-start .result) (c .row-start .ensures)
 
 loop-again : tie.Need-loop-again Inv-loop μ-loop Inv-scan μ-scan
 loop-again c =
@@ -105,5 +109,5 @@ returns-2 c =
     (c .before .before .before .before .loop-test .taken) (length-named ts ns (suc (p .loop .earlier)) t' n')
     (rw (getD-named ts ns (p .loop .earlier) t' n') (sym (c .before .same-object .ensures) ∙ c .if1 .taken)))))
 
-pub repeat-by-lows-spec : {M : Type 1} → statement M
-repeat-by-lows-spec = tie.close (tie.spec Inv-loop μ-loop Inv-scan μ-scan scan-holds (λ c. search needs) (λ c. search needs) (λ c. search needs) (λ c. search needs) (λ c κs. search needs) loop-holds (λ c. search needs) (λ c. search needs) (λ c. search needs) (λ c. search needs) (λ c κs. search needs) (λ c. search needs) (λ c. search needs) loop-again (λ c. search needs) (λ c. search needs) scan-again returns returns-2)
+pub repeat-by-keys-spec : {M : Type 1} → statement M
+repeat-by-keys-spec = tie.close (tie.spec Inv-loop μ-loop Inv-scan μ-scan scan-holds (λ c. search needs) (λ c. search needs) (λ c. search needs) (λ c. search needs) (λ c κs. search needs) loop-holds (λ c. search needs) (λ c. search needs) (λ c. search needs) (λ c. search needs) (λ c κs. search needs) (λ c. search needs) (λ c. search needs) loop-again (λ c. search needs) (λ c. search needs) scan-again returns returns-2)

@@ -10,6 +10,7 @@ use Rattle.layout.specs.declared.Layout.{Layout}
 use Rattle.layout.specs.Records.{view}
 use Rattle.collector.specs.declared.Reading.{Reading}
 use Rattle.collector.specs.Runs.{readRun, listedCut}
+use Rattle.listing.specs.Texts.{ascii}
 
 -- The last decimal digit of a number; 48 is `0`.
 abbrev pub digit : ℕ → ℕ
@@ -29,45 +30,13 @@ unfoldable pub signed : ℤ → List ℕ
 signed (pos n) = decimal n
 signed (negsuc n) = 45 ∷ decimal (suc n)
 
--- `layout`
-abbrev pub layoutWord : List ℕ
-layoutWord = 108 ∷ 97 ∷ 121 ∷ 111 ∷ 117 ∷ 116 ∷ []
-
--- `components`
-abbrev pub componentsWord : List ℕ
-componentsWord = 99 ∷ 111 ∷ 109 ∷ 112 ∷ 111 ∷ 110 ∷ 101 ∷ 110 ∷ 116 ∷ 115 ∷ []
-
--- `refused`
-abbrev pub refusedWord : List ℕ
-refusedWord = 114 ∷ 101 ∷ 102 ∷ 117 ∷ 115 ∷ 101 ∷ 100 ∷ []
-
--- `page`
-abbrev pub pageWord : List ℕ
-pageWord = 112 ∷ 97 ∷ 103 ∷ 101 ∷ []
-
--- `eof`
-abbrev pub eofWord : List ℕ
-eofWord = 101 ∷ 111 ∷ 102 ∷ []
-
--- `init`
-abbrev pub initWord : List ℕ
-initWord = 105 ∷ 110 ∷ 105 ∷ 116 ∷ []
-
--- `bare`
-abbrev pub bareWord : List ℕ
-bareWord = 98 ∷ 97 ∷ 114 ∷ 101 ∷ []
-
--- `extension`
-abbrev pub extensionWord : List ℕ
-extensionWord = 101 ∷ 120 ∷ 116 ∷ 101 ∷ 110 ∷ 115 ∷ 105 ∷ 111 ∷ 110 ∷ []
-
 -- Where an extent ends: "EOF is 2^64 - 1".
 unfoldable pub endWord : ℕ → List ℕ
-endWord end = cond (eqb end 18446744073709551615) eofWord (decimal end)
+endWord end = cond (eqb end 18446744073709551615) (ascii "eof") (decimal end)
 
 -- "kind (init, bare, extension)", by the two flags.
 unfoldable pub kindWord : Bool → Bool → List ℕ
-kindWord init extension = cond init initWord (cond extension extensionWord bareWord)
+kindWord init extension = cond init (ascii "init") (cond extension (ascii "extension") (ascii "bare"))
 
 -- "size (of an extension, its extension size)".
 abbrev pub sizeIn : Bool → ℕ → ℕ → ℕ
@@ -81,7 +50,7 @@ line (w ∷ x ∷ ws) = w ++ (32 ∷ []) ++ line (x ∷ ws)
 
 -- "the first line has the generation and the number of components".
 abbrev pub headLine : ℕ → ℕ → List ℕ
-headLine generation count = line (layoutWord ∷ decimal generation ∷ componentsWord ∷ decimal count ∷ [])
+headLine generation count = line (ascii "layout" ∷ decimal generation ∷ ascii "components" ∷ decimal count ∷ [])
 
 -- "each further line is id, begin, end, kind (init, bare, extension), stripe count, size (of an extension, its extension size),
 -- first target": the words of a component's line from its stripe count on,
@@ -111,7 +80,7 @@ layoutText l = headLine (l .generation) (l .count) ++ componentLines (view l)
 
 -- "At the first refusal it prints only `refused N page P`, P counting from 0."
 abbrev pub refusedLine : ℕ → ℕ → List ℕ
-refusedLine number page = line (refusedWord ∷ decimal number ∷ pageWord ∷ decimal page ∷ [])
+refusedLine number page = line (ascii "refused" ∷ decimal number ∷ ascii "page" ∷ decimal page ∷ [])
 
 -- The listing of what a reading gave.
 abbrev pub readingText : Reading → List ℕ

@@ -2,7 +2,8 @@
 use mathlib.Core.List.{[], _∷_, _++_}
 use native.Mathlib.Omega.{arith}
 use denote.Ref.{now}
-use Rattle.listing.specs.Listing.{decimal, layoutWord, componentsWord, line}
+use Rattle.listing.specs.Listing.{decimal, line}
+use Rattle.listing.specs.Texts.{ascii}
 use Rattle.listing.proofs.Writing.{both, from-first}
 use borrow.Author.Needs.{needs}
 use Rattle.listing.proofs.lines.put_head.Statement.{statement}
@@ -16,10 +17,10 @@ returns c =
     let first = second .before .before .before .before in
     let a = first .before .before .before .before .args in
     let last = decimal (a .count) ∷ [] in (
-      from-first (now (a .out)) _ (line (layoutWord ∷ decimal (a .generation) ∷ componentsWord ∷ last)) _
-          (both (now (a .out)) _ _ (layoutWord ++ (32 ∷ [])) (line (decimal (a .generation) ∷ componentsWord ∷ last)) 0 _ _ (first .put-text .ensures)
-          (both (first .put-text .last .0) _ _ (decimal (a .generation) ++ (32 ∷ [])) (line (componentsWord ∷ last)) _ _ _ (second .put-number .ensures .0)
-          (both (second .put-number .last .0) _ _ (componentsWord ++ (32 ∷ [])) (line last) _ _ _ (third .put-text2 .ensures) (fourth .put-number2 .ensures .0)))),
+      from-first (now (a .out)) _ (line (ascii "layout" ∷ decimal (a .generation) ∷ ascii "components" ∷ last)) _
+          (both (now (a .out)) _ _ (ascii "layout" ++ (32 ∷ [])) (line (decimal (a .generation) ∷ ascii "components" ∷ last)) 0 _ _ (first .put-text .ensures)
+          (both (first .put-text .last .0) _ _ (decimal (a .generation) ++ (32 ∷ [])) (line (ascii "components" ∷ last)) _ _ _ (second .put-number .ensures .0)
+          (both (second .put-number .last .0) _ _ (ascii "components" ++ (32 ∷ [])) (line last) _ _ _ (third .put-text2 .ensures) (fourth .put-number2 .ensures .0)))),
       omega arith,
     )
 

@@ -2,7 +2,8 @@
 use mathlib.Core.List.{[], _∷_, _++_}
 use native.Mathlib.Omega.{arith}
 use denote.Ref.{now}
-use Rattle.listing.specs.Listing.{decimal, refusedWord, pageWord, line}
+use Rattle.listing.specs.Listing.{decimal, line}
+use Rattle.listing.specs.Texts.{ascii}
 use Rattle.listing.proofs.Writing.{both, from-first}
 use borrow.Author.Needs.{needs}
 use Rattle.listing.proofs.lines.put_refused.Statement.{statement}
@@ -16,10 +17,10 @@ returns c =
     let first = second .before .before .before .before in
     let a = first .before .before .before .before .args in
     let last = decimal (a .page) ∷ [] in (
-      from-first (now (a .out)) _ (line (refusedWord ∷ decimal (a .number) ∷ pageWord ∷ last)) _
-          (both (now (a .out)) _ _ (refusedWord ++ (32 ∷ [])) (line (decimal (a .number) ∷ pageWord ∷ last)) 0 _ _ (first .put-text .ensures)
-          (both (first .put-text .last .0) _ _ (decimal (a .number) ++ (32 ∷ [])) (line (pageWord ∷ last)) _ _ _ (second .put-number .ensures .0)
-          (both (second .put-number .last .0) _ _ (pageWord ++ (32 ∷ [])) (line last) _ _ _ (third .put-text2 .ensures) (fourth .put-number2 .ensures .0)))),
+      from-first (now (a .out)) _ (line (ascii "refused" ∷ decimal (a .number) ∷ ascii "page" ∷ last)) _
+          (both (now (a .out)) _ _ (ascii "refused" ++ (32 ∷ [])) (line (decimal (a .number) ∷ ascii "page" ∷ last)) 0 _ _ (first .put-text .ensures)
+          (both (first .put-text .last .0) _ _ (decimal (a .number) ++ (32 ∷ [])) (line (ascii "page" ∷ last)) _ _ _ (second .put-number .ensures .0)
+          (both (second .put-number .last .0) _ _ (ascii "page" ++ (32 ∷ [])) (line last) _ _ _ (third .put-text2 .ensures) (fourth .put-number2 .ensures .0)))),
       omega arith,
     )
 

@@ -47,9 +47,11 @@ returns-2 c =
     let e : n ≡ bitsOf (a .z) = bits .bits-of .ensures ∙ ap bitsOf (toZ-ofZ f) in
     let s : signed (a .z) ≡ 45 ∷ decimal (4294967296 - n) =
     signed-minus (a .z) f (omega arith) ∙ ap (λ (k : ℕ). 45 ∷ decimal (4294967296 - k)) (sym e) in
-    rw s
-    (both (now (a .out)) (set (now (a .out)) (a .at) 45) _ (45 ∷ []) (decimal (4294967296 - n) ++ (a .behind ∷ [])) (a .at)
-    (a .at + 1) _ (refl, refl) (call .put-number2 .ensures .0), omega arith)
+    rw s (
+      both (now (a .out)) (set (now (a .out)) (a .at) 45) _ (45 ∷ []) (decimal (4294967296 - n) ++ (a .behind ∷ [])) (a .at)
+          (a .at + 1) _ (refl, refl) (call .put-number2 .ensures .0),
+      omega arith,
+    )
 
 pub put-signed-spec : {M : Type 1} → statement M
 put-signed-spec =

@@ -1,3 +1,4 @@
 pub mod Texts
 pub mod Listing
 pub mod DecimalLaws
+pub mod FirstBytes

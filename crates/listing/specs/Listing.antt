@@ -21,9 +21,9 @@ abbrev pub decimalBy : ℕ → ℕ → List ℕ
 decimalBy zero n = digit n ∷ []
 decimalBy (suc k) n = cond (ltb n 10) (digit n ∷ []) (decimalBy k (n / 10) ++ (digit n ∷ []))
 
--- A number in decimal: its digits, the highest first, with no zero in front; `0` for 0. No number n has more than n + 1 digits.
+-- A number of 64 bits in decimal: its digits, at most 20, the highest first, with no zero in front; `0` for 0.
 unfoldable pub decimal : ℕ → List ℕ
-decimal n = decimalBy n n
+decimal n = decimalBy 19 n
 
 -- A signed number in decimal; 45 is `-`.
 unfoldable pub signed : ℤ → List ℕ

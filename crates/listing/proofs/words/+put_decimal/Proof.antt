@@ -52,20 +52,22 @@ module _ (t : ℕ) where
 
   put-decimal-requires : lts.Need-put-decimal-requires (below t, put-decimal.Post) (at t) put-decimal.Post
   put-decimal-requires c κs =
-      let a = c .before .before .before .args in
-      let m = length-more (a .n) (c .before .if1 .left) in
+      let first = c .before .before .before in
+      let m = length-more (first .args .n) (c .before .if1 .left) (first .fits .n .fits) in
       (omega arith, omega arith)
 
   slice-write-out-2 : lts.Need-slice-write-out-2 (below t, put-decimal.Post) (at t) put-decimal.Post
   slice-write-out-2 c =
       let call = c .before .before in
-      let m = length-more (call .before .before .before .before .args .n) (call .before .before .if1 .left) in
+      let first = call .before .before .before .before in
+      let m = length-more (first .args .n) (call .before .before .if1 .left) (first .fits .n .fits) in
       omega (arith, call .put-decimal .kept .0)
 
   add-result-2 : lts.Need-add-result-2 (below t, put-decimal.Post) (at t) put-decimal.Post
   add-result-2 c =
       let call = c .before .before in
-      let m = length-more (call .before .before .before .before .args .n) (call .before .before .if1 .left) in
+      let first = call .before .before .before .before in
+      let m = length-more (first .args .n) (call .before .before .if1 .left) (first .fits .n .fits) in
       record { fits = omega arith }
 
   same-length-2 : lts.Need-same-length-2 (below t, put-decimal.Post) (at t) put-decimal.Post
@@ -74,8 +76,9 @@ module _ (t : ℕ) where
   returns-2 : lts.Need-returns-2 (below t, put-decimal.Post) (at t) put-decimal.Post
   returns-2 c =
       let call = c .before .before in
-      let a = call .before .before .before .before .args in
-      let e = decimal-more (a .n) (call .before .before .if1 .left) in
+      let first = call .before .before .before .before in
+      let a = first .args in
+      let e = decimal-more (a .n) (call .before .before .if1 .left) (first .fits .n .fits) in
       rw e (byte-behind (now (a .out)) _ (decimal (a .n / 10)) (a .at) (call .put-decimal .result) (digit (a .n))
       (call .put-decimal .ensures))
 

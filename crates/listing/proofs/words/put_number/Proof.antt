@@ -12,19 +12,19 @@ use Rattle.listing.proofs.words.put_number.Tie as tie
 put-decimal-requires : tie.Need-put-decimal-requires
 put-decimal-requires c κs =
     let first = c .before .before in
-    omega (arith, length-decimal (first .args .n) (first .fits .n .fits))
+    omega (arith, length-decimal (first .args .n))
 
 slice-write-out : tie.Need-slice-write-out
 slice-write-out c =
     let call = c .before .before in
     let first = call .before .before .before in
-    omega (arith, length-decimal (first .args .n) (first .fits .n .fits), call .put-decimal .kept .0)
+    omega (arith, length-decimal (first .args .n), call .put-decimal .kept .0)
 
 add-result : tie.Need-add-result
 add-result c =
     let call = c .before .before in
     let first = call .before .before .before in
-    record { fits = omega (arith, length-decimal (first .args .n) (first .fits .n .fits)) }
+    record { fits = omega (arith, length-decimal (first .args .n)) }
 
 returns : tie.Need-returns
 returns c =
@@ -32,7 +32,7 @@ returns c =
     let first = call .before .before .before in
     let a = first .args in (
       byte-behind (now (a .out)) _ (decimal (a .n)) (a .at) (call .put-decimal .result) (a .behind) (call .put-decimal .ensures),
-      omega (arith, length-decimal (a .n) (first .fits .n .fits)),
+      omega (arith, length-decimal (a .n)),
     )
 
 pub put-number-spec : {M : Type 1} → statement M

@@ -1,0 +1,10 @@
+-- Texts as lists of bytes.
+use Prim.Native.Nat.{ℕ}
+use Prim.Native.Char.{Char, code}
+use Prim.Native.String.{String, [] as none, _∷_ as _then_}
+use mathlib.Core.List.{List, [], _∷_}
+
+-- The bytes of a text in ASCII: the numbers of its characters.
+abbrev pub ascii : String → List ℕ
+ascii none = []
+ascii (c then s) = code c ∷ ascii s

@@ -9,10 +9,10 @@ ghost use mathlib.Core.Path.{_≡_};
 ghost use mathlib.Core.Bool.{true};
 ghost use mathlib.Core.List.{[], _∷_};
 ghost use Prim.Native.Nat.{_+_, _*_, _<_, _≤_, min};
-ghost use lib.ListN.{length, getD};
+ghost use lib.ListN.{length};
 ghost use lib.Seq.{sets};
 ghost use Rattle.layout.specs.Rules.{valid};
-ghost use Rattle.free_table.specs.Table.{noRecord, tableOf};
+ghost use Rattle.free_table.specs.Table.{tableOf};
 ghost use Rattle.growth_rules.specs.Growing.{growOf};
 ghost use Rattle.growth.specs.Answers.{growSays};
 ghost use Rattle.gateway.specs.Host.{lentAfter};
@@ -77,14 +77,6 @@ fn load(words: &[u64]) -> Table
     t
 }
 
-// The next number of the record at place i.
-fn next_at(t: Table, i: usize) -> u64
-    requires { ⌜ i < 65 ⌝ }
-    ensures { λ n. ⌜ n ≡ getD (t .records) i noRecord .next ⌝ }
-{
-    t.records[i].next
-}
-
 // Stores the next numbers of the table, each in the third word of its record.
 fn put_nexts(words: &mut [u64], t: Table)
     requires { ⌜ (t .count ≤ 65) × (3 * t .count ≤ length (now words)) ⌝ }
@@ -93,7 +85,8 @@ fn put_nexts(words: &mut [u64], t: Table)
     let n = t.count;
     let mut i: usize = 0;
     while i < n {
-        words[3 * i + 2] = next_at(t, i);
+        let r = t.records[i];
+        words[3 * i + 2] = r.next;
         i += 1;
     }
 }

@@ -23,25 +23,25 @@ loop-holds c = (search needs, refl, refl)
 loop-again : tie.Need-loop-again Inv-loop μ-loop
 loop-again c =
     let p = c .before .before in
-    let s = p .before .before in
-    let rs = s .args .t .records in
+    let s = p .before in
+    let rs = s .args .t2 .records in
     let h : length rs ≡ 65 = unmapped rs _ (s .good .1 .0 .1 .1 .1 .0 .1 .0 .1) in
     let ws = s .args .words .now in
     let i = p .loop .i in
     let e = words-next ws rs i (omega arith) (omega arith) in (
       omega arith,
       simp length-set (p .loop .inv .1),
-      rw (p .loop .inv .2, c .next-at .ensures) e,
+      rw (p .loop .inv .2) e,
     )
 
 returns : tie.Need-returns Inv-loop μ-loop
 returns c =
     let p = c .before in
-    let a = p .before .before .args in
-    let i : p .loop .i ≡ a .t .count = omega arith in
-    p .loop .inv .2 ∙ ap (λ (j : ℕ). withNextWords (a .words .now) (take j (a .t .records))) i
+    let a = p .before .args in
+    let i : p .loop .i ≡ a .t2 .count = omega arith in
+    p .loop .inv .2 ∙ ap (λ (j : ℕ). withNextWords (a .words .now) (take j (a .t2 .records))) i
 
 pub put-nexts-spec : {M : Type 1} → statement M
 put-nexts-spec =
-    tie.close (tie.spec Inv-loop μ-loop loop-holds (λ c κs. search needs) (λ c. search needs) (λ c. search needs)
+    tie.close (tie.spec Inv-loop μ-loop loop-holds (λ c. search needs) (λ c. search needs) (λ c. search needs) (λ c. search needs)
     (λ c. search needs) (λ c. search needs) (λ c. search needs) (λ c. search needs) loop-again (λ c. search needs) returns)

@@ -1,5 +1,5 @@
 pub mod Spans
-pub mod SliceLaws
+pub mod PlacedLaws
 pub mod FieldLaws
 pub mod ValidLaws
 pub mod SpanLaws

@@ -12,7 +12,7 @@ use Rattle.page.specs.Content.{componentAt}
 use Rattle.in_place.specs.Places.{componentsAt, ValidAt}
 use Rattle.mapping.specs.Spans.{spansOf, Cuttable}
 use Rattle.placed_mapping.specs.Spans.{spanAt, spansAt}
-use Rattle.placed_mapping.specs.SliceLaws.{components-done}
+use Rattle.in_place.specs.SliceLaws.{components-done}
 use Rattle.placed_mapping.specs.ValidLaws.{valid-init, valid-next}
 
 -- Past the last place there are none.

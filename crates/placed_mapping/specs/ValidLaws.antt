@@ -12,7 +12,8 @@ use Rattle.layout.specs.FactLaws.{keeps-facts, kind-init}
 use Rattle.layout.specs.ArrayLaws.{kind-at}
 use Rattle.page.specs.Content.{componentAt}
 use Rattle.in_place.specs.Places.{componentsAt, ValidAt}
-use Rattle.placed_mapping.specs.SliceLaws.{components-next, component-placed, length-components}
+use Rattle.in_place.specs.SliceLaws.{components-next, components-length}
+use Rattle.placed_mapping.specs.PlacedLaws.{component-placed}
 
 module _ (s ps : List ℕ) (n : ℕ) (v : ValidAt s n ps) where
   -- They keep the component rules.
@@ -22,7 +23,7 @@ module _ (s ps : List ℕ) (n : ℕ) (v : ValidAt s n ps) where
   module _ (sixteen : length ps ≡ 16) where
     -- There are n of them.
     pub valid-length : length (componentsAt s (take n ps)) ≡ n
-    valid-length = length-components s ps n (omega arith)
+    valid-length = components-length s ps n (omega arith)
 
     module _ (i : ℕ) (h : i < n) where
       -- Position i of the list is place i.

@@ -15,7 +15,7 @@ use Rattle.layout.specs.HolderLaws.{endsAbove, holder-ends}
 use Rattle.page.specs.Form.{behind}
 use Rattle.page.specs.Content.{componentAt}
 use Rattle.in_place.specs.Places.{componentsAt}
-use Rattle.placed_mapping.specs.SliceLaws.{components-done}
+use Rattle.in_place.specs.SliceLaws.{components-done}
 use Rattle.placed_mapping.specs.FieldLaws.{end-at}
 use Rattle.placed_mapping.specs.ValidLaws.{valid-keeps, valid-next}
 use Rattle.placed_mapping.proofs.homes.holder.Statement.{statement}

@@ -20,7 +20,7 @@ use Rattle.page.specs.Content.{componentAt}
 use Rattle.in_place.specs.Places.{componentsAt}
 use Rattle.mapping.specs.Back.{ownerOf}
 use Rattle.mapping.specs.BackLaws.{position-elem}
-use Rattle.placed_mapping.specs.SliceLaws.{components-done}
+use Rattle.in_place.specs.SliceLaws.{components-done}
 use Rattle.placed_mapping.specs.FieldLaws.{records-length}
 use Rattle.placed_mapping.specs.ValidLaws.{valid-next}
 use Rattle.placed_mapping.proofs.objects.owner.Statement.{statement}

@@ -17,7 +17,7 @@ by-more (suc k) n h =
     let p : 10 ^ suc (suc k) ≡ 10 ^ suc k * 10 = pow-suc 10 (suc k) in
     bool-cases (ltb n 10)
     (λ e. rw e)
-    (λ e. rw e (ap (λ (ds : List ℕ). ds ++ (digit n ∷ [])) (by-more k (n / 10) (omega arith))))
+    (λ e. rw (e, by-more k (n / 10) (omega arith)))
 
 -- A number below ten is one digit,
 pub decimal-one : (n : ℕ) → n < 10 → decimal n ≡ digit n ∷ []

@@ -26,15 +26,13 @@ returns c =
     rw s (call .put-number .ensures .0, omega arith)
 
 put-number-requires-2 : tie.Need-put-number-requires-2
-put-number-requires-2 c κs =
-    let a = c .before .before .before .before .args in
-    omega (arith, length-set (now (a .out)) (a .at) 45)
+put-number-requires-2 c κs = rw length-set (omega arith)
 
 same-length-2 : tie.Need-same-length-2
 same-length-2 c =
     let call = c .before .before in
     let a = call .before .before .before .before .before .args in
-    call .put-number2 .kept .0 ∙ length-set (now (a .out)) (a .at) 45
+    call .put-number2 .kept .0 ∙ length-set (now (a .out)) (a .at) _
 
 returns-2 : tie.Need-returns-2
 returns-2 c =

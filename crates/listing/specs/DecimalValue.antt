@@ -1,6 +1,7 @@
--- The digits of a number of 64 bits stand for that number, and the first of them is 0 only for 0: `decimal` is the usual form.
-use Prim.Native.Nat.{ℕ, zero, suc, _+_, _*_, _-_, _^_, _/_, _%_, _≤_, _<_}
-use mathlib.Core.Path.{_≡_, refl, _∙_}
+-- The digits of a number of 64 bits stand for that number, and the first of them is `0` only for 0: `decimal` is the
+-- usual form.
+use Prim.Native.Nat.{ℕ, zero, suc, _+_, _*_, _-_, _^_, _/_, _≤_, _<_}
+use mathlib.Core.Path.{_≡_, refl}
 use mathlib.Core.List.{List, [], _∷_, _++_}
 use native.Mathlib.Omega.{arith}
 use native.Mathlib.Nat.{pow-suc}

@@ -1,5 +1,6 @@
--- The first bytes decide the listing: a reading takes at most 16 pages, each of at most 512 bytes after its length of two, and
--- "after the last page any byte gives 2". So a program may read no more than a certain number of bytes.
+-- The first bytes decide the listing. A reading looks at 17 pages at most, each of at most 512 bytes after a length of
+-- two: it takes no more than 16, and refuses the next by what it is. After the last page the first byte shows whether
+-- any follows. So a program that lists may leave all later bytes unread.
 use Prim.Native.Nat.{ℕ, zero, suc, _+_, _*_, _-_, _≤_, _<_}
 use mathlib.Core.Path.{_≡_, refl, sym, ap, ap₂, _∙_}
 use mathlib.Core.List.{List, [], _∷_}
@@ -62,9 +63,11 @@ module _ (m : ℕ) (s : List ℕ) (h : 514 < m) (k : m < length s) where
 -- Where at most `left` pages are to come, more bytes than 514 for each decide the reading.
 abbrev Decided : ℕ → Type 0
 Decided left =
-    (m : ℕ) (c : Collector) (s : List ℕ) → 514 * left < m → readOn listedCut left c (take m s) ≡ readOn listedCut left c s
+    (m : ℕ) (c : Collector) (s : List ℕ) → 514 * left < m
+    → readOn listedCut left c (take m s) ≡ readOn listedCut left c s
 
-module _ (left : ℕ) (ih : Decided left) (m : ℕ) (c : Collector) (s : List ℕ) (h : 514 * suc left < m) (k : m < length s) where
+module _ (left : ℕ) (ih : Decided left) (m : ℕ) (c : Collector) (s : List ℕ) (h : 514 * suc left < m)
+    (k : m < length s) where
   on-page : u16At s 0 ≤ 512
       → following (readOn listedCut left) c (listedCut (take m s)) ≡ following (readOn listedCut left) c (listedCut s)
   on-page g =
@@ -76,7 +79,8 @@ module _ (left : ℕ) (ih : Decided left) (m : ℕ) (c : Collector) (s : List �
       (ih (m - (2 + w)) (pageIn c p .collector) (drop (2 + w) s) (omega arith))
       ∙ ap (following (readOn listedCut left) c) (sym (listed-next s (omega arith) (omega arith) g (omega arith)))
 
-  on-bytes : following (readOn listedCut left) c (listedCut (take m s)) ≡ following (readOn listedCut left) c (listedCut s)
+  on-bytes :
+      following (readOn listedCut left) c (listedCut (take m s)) ≡ following (readOn listedCut left) c (listedCut s)
   on-bytes = bool-cases (leb (u16At s 0) 512)
       (λ e. on-page (leb-true (u16At s 0) 512 e))
       (λ e. ap (following (readOn listedCut left) c) (long-first m s (omega arith) k (leb-false (u16At s 0) 512 e)))

@@ -1,7 +1,8 @@
--- `listing::words::put_signed` meets its contract: by the bits of the number, and behind the sign of a negative one stands what it is below 0.
+-- `listing::words::put_signed` meets its contract: by the bits of the number, and behind the sign of a negative one
+-- stands what it is below 0.
 use Prim.Native.Nat.{ℕ, _+_, _-_}
 use mathlib.Core.Path.{_≡_, refl, sym, ap, _∙_}
-use mathlib.Core.List.{List, [], _∷_, _++_}
+use mathlib.Core.List.{[], _∷_, _++_}
 use native.Mathlib.Omega.{arith}
 use lib.ListN.{length-set, set}
 use mir.Facts.{toZ-ofZ}
@@ -42,12 +43,13 @@ returns-2 c =
     let a = first .args in
     let f = first .fits .z in
     let n = bits .bits-of .result in
+    let out = now (a .out) in
     let e : n ≡ bitsOf (a .z) = bits .bits-of .ensures ∙ ap bitsOf (toZ-ofZ f) in
     let s : signed (a .z) ≡ 45 ∷ decimal (4294967296 - n) =
     signed-minus (a .z) f (omega arith) ∙ ap (λ (k : ℕ). 45 ∷ decimal (4294967296 - k)) (sym e) in
     rw s (
-      both (now (a .out)) (set (now (a .out)) (a .at) 45) _ (45 ∷ []) (decimal (4294967296 - n) ++ (a .behind ∷ [])) (a .at)
-          (a .at + 1) _ (refl, refl) (call .put-number2 .ensures .0),
+      both out (set out (a .at) 45) _ (45 ∷ []) (decimal (4294967296 - n) ++ (a .behind ∷ [])) (a .at) (a .at + 1) _
+          (refl, refl) (call .put-number2 .ensures .0),
       omega arith,
     )
 

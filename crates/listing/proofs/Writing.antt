@@ -23,7 +23,7 @@ both b b₁ b₂ w x at p q f g = (
 pub byte-behind : (b b₁ w : List ℕ) (at p d : ℕ) → Wrote b at w p b₁ → Wrote b at (w ++ (d ∷ [])) (p + 1) (set b₁ p d)
 byte-behind b b₁ w at p d f = both b b₁ (set b₁ p d) w (d ∷ []) at p (p + 1) f (refl, refl)
 
--- A text written from the first byte on: it ends at its length.
+-- A text written from the first byte on ends at its length, and the other way round.
 pub from-first : (b b₁ w : List ℕ) (q : ℕ) → Wrote b 0 w q b₁ → (q ≡ length w) × (b₁ ≡ sets b 0 w)
 from-first b b₁ w q f = (omega (arith, f .0), f .1)
 

@@ -66,6 +66,7 @@ Decided left =
     (m : ℕ) (c : Collector) (s : List ℕ) → 514 * left < m
     → readOn listedCut left c (take m s) ≡ readOn listedCut left c s
 
+-- One page more: it is cut alike from the first bytes, and what follows it is decided.
 module _ (left : ℕ) (ih : Decided left) (m : ℕ) (c : Collector) (s : List ℕ) (h : 514 * suc left < m)
     (k : m < length s) where
   on-page : u16At s 0 ≤ 512
@@ -94,7 +95,7 @@ on-first (suc left) m c s h = bool-cases (leb (length s) m)
     ap₂ (λ (a b : Reading). cond (c .complete) a b) (closed-first c m s (omega arith))
     (on-bytes left (on-first left) m c s h k))
 
--- The listing of any bytes is that of their first m, where m is above 514 · 17.
+-- The listing of any bytes is that of their first m, where m is above 17 * 514.
 pub listing-first : (m : ℕ) (s : List ℕ) → 8738 < m → listingOf (take m s) ≡ listingOf s
 unfolding listingOf readRun
 listing-first m s h = ap readingText (on-first 17 m newCollector s h)

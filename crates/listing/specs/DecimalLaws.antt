@@ -30,14 +30,14 @@ unfolding decimal
 decimal-more n h k =
     rw (le-ltb n 10 h) (ap (λ (ds : List ℕ). ds ++ (digit n ∷ [])) (sym (by-more 18 (n / 10) (omega arith))))
 
--- So is the number of digits.
+-- The number of digits, by the same two cases.
 pub length-one : (n : ℕ) → n < 10 → length (decimal n) ≡ 1
 length-one n h = ap length (decimal-one n h)
 
 pub length-more : (n : ℕ) → 10 ≤ n → n < 2 ^ 64 → length (decimal n) ≡ length (decimal (n / 10)) + 1
 length-more n h k = ap length (decimal-more n h k) ∙ length-append (decimal (n / 10)) (digit n ∷ [])
 
--- There are no more than are allowed.
+-- There are never more digits than are allowed.
 length-by : (k n : ℕ) → length (decimalBy k n) ≤ suc k
 length-by zero n = omega arith
 length-by (suc k) n = bool-cases (ltb n 10)

@@ -1,7 +1,8 @@
-// Lists the layout whose pages are on standard input, each after its length. Prints the lines of the layout, or the
-// line of the first refusal. Of the input the first 65,536 bytes are read, and what stands behind them changes nothing:
-// each page that is taken has a component, so 16 pages are taken at most and a 17th is refused at the latest, and a
-// page has at most 514 bytes with its length (`listing-first` in the laws of crate `listing`).
+// Lists the layout whose pages are on standard input, each after its length: prints the lines of the layout, or the
+// line of the first refusal.
+
+// It reads the first 65,536 bytes and no more. By the law `listing-first` of crate `listing` the first 8,739 decide the
+// listing: at most 16 pages are taken, and of what follows them only the next page is looked at.
 fn main() {
     let mut input = io::large_buffer();
     let length = io::read_full(0, &mut input);

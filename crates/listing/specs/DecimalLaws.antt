@@ -1,12 +1,12 @@
 -- Laws of numbers in decimal.
-use Prim.Native.Nat.{ℕ, zero, suc, _+_, _*_, _^_, _/_, _%_, _≤_, _<_}
-use mathlib.Core.Path.{_≡_, refl, sym, ap, _∙_}
+use Prim.Native.Nat.{ℕ, zero, suc, _+_, _*_, _^_, _/_, _≤_, _<_}
+use mathlib.Core.Path.{_≡_, sym, ap, _∙_}
 use mathlib.Core.List.{List, [], _∷_, _++_}
 use native.Mathlib.Omega.{arith}
 use native.Mathlib.Nat.{pow-suc}
 use lib.Dec.{ltb}
 use lib.ListN.{length, length-append}
-use borrow.Author.Tests.{lt-ltb, le-ltb, ltb-true, ltb-false}
+use borrow.Author.Tests.{lt-ltb, le-ltb}
 use Rattle.lists.specs.Bools.{bool-cases}
 use Rattle.listing.specs.Listing.{digit, decimalBy, decimal}
 
@@ -17,7 +17,7 @@ by-more (suc k) n h =
     let p : 10 ^ suc (suc k) ≡ 10 ^ suc k * 10 = pow-suc 10 (suc k) in
     bool-cases (ltb n 10)
     (λ e. rw e)
-    (λ e. rw e (ap (λ (ds : List ℕ). ds ++ (digit n ∷ [])) (by-more k (n / 10) (omega arith))))
+    (λ e. rw (e, by-more k (n / 10) (omega arith)))
 
 -- A number below ten is one digit,
 pub decimal-one : (n : ℕ) → n < 10 → decimal n ≡ digit n ∷ []
@@ -30,13 +30,14 @@ unfolding decimal
 decimal-more n h k =
     rw (le-ltb n 10 h) (ap (λ (ds : List ℕ). ds ++ (digit n ∷ [])) (sym (by-more 18 (n / 10) (omega arith))))
 
--- How many digits there are.
+-- The number of digits, by the same two cases.
 pub length-one : (n : ℕ) → n < 10 → length (decimal n) ≡ 1
 length-one n h = ap length (decimal-one n h)
 
 pub length-more : (n : ℕ) → 10 ≤ n → n < 2 ^ 64 → length (decimal n) ≡ length (decimal (n / 10)) + 1
 length-more n h k = ap length (decimal-more n h k) ∙ length-append (decimal (n / 10)) (digit n ∷ [])
 
+-- There are never more digits than are allowed.
 length-by : (k n : ℕ) → length (decimalBy k n) ≤ suc k
 length-by zero n = omega arith
 length-by (suc k) n = bool-cases (ltb n 10)

@@ -36,10 +36,10 @@ printed =
     ++ ascii "4 104857600 eof extension 0 25165824 -1\n"
 
 pub paper-listing : listingOf (u16Bytes (length pageB) ++ pageB) ≡ printed
-unfolding listingOf readRun listedCut settled pageRefusal openRefusal contentRefusal isNext collectorOk countsAgree pageForm
-    formBy headForm componentForm componentMarks recordsAt objectForm headOf componentsOf componentAt objectAt u16At u32At
-    u64At i32Of isSet onlyFirst packObjects packComponents ruleBroken fieldsOk kindOk extensionOk stripedOk nonzeroMultiple
-    firstTargetOk isTarget isMinusOne neighboursHold distinctHold sameObject initOf bareOf extensionOf layoutB pageBytes
-    headBytes words componentBytes fieldBytes longs objectBytes u16Bytes u32Bytes u64Bytes bitsOf flagWord decimal signed
-    endWord kindWord numberOf
+unfolding listingOf readRun listedCut settled pageRefusal openRefusal contentRefusal numberOf isNext collectorOk
+    countsAgree pageForm formBy headForm componentForm componentMarks recordsAt objectForm headOf componentsOf
+    componentAt objectAt u16At u32At u64At i32Of isSet onlyFirst packObjects packComponents ruleBroken fieldsOk kindOk
+    extensionOk stripedOk nonzeroMultiple firstTargetOk isTarget isMinusOne neighboursHold distinctHold sameObject
+    initOf bareOf extensionOf layoutB pageBytes headBytes words componentBytes fieldBytes longs objectBytes u16Bytes
+    u32Bytes u64Bytes bitsOf flagWord decimal signed endWord kindWord
 paper-listing = refl

@@ -1,5 +1,6 @@
--- The first bytes decide the listing: a reading takes at most 16 pages, each of at most 512 bytes after its length of two, and
--- "after the last page any byte gives 2". So a program may read no more than a certain number of bytes.
+-- The first bytes decide the listing. A reading looks at 17 pages at most, each of at most 512 bytes after a length of
+-- two: it takes no more than 16, and refuses the next by what it is. After the last page the first byte shows whether
+-- any follows. So a program that lists may leave all later bytes unread.
 use Prim.Native.Nat.{ℕ, zero, suc, _+_, _*_, _-_, _≤_, _<_}
 use mathlib.Core.Path.{_≡_, refl, sym, ap, ap₂, _∙_}
 use mathlib.Core.List.{List, [], _∷_}
@@ -62,9 +63,12 @@ module _ (m : ℕ) (s : List ℕ) (h : 514 < m) (k : m < length s) where
 -- Where at most `left` pages are to come, more bytes than 514 for each decide the reading.
 abbrev Decided : ℕ → Type 0
 Decided left =
-    (m : ℕ) (c : Collector) (s : List ℕ) → 514 * left < m → readOn listedCut left c (take m s) ≡ readOn listedCut left c s
+    (m : ℕ) (c : Collector) (s : List ℕ) → 514 * left < m
+    → readOn listedCut left c (take m s) ≡ readOn listedCut left c s
 
-module _ (left : ℕ) (ih : Decided left) (m : ℕ) (c : Collector) (s : List ℕ) (h : 514 * suc left < m) (k : m < length s) where
+-- One page more: it is cut alike from the first bytes, and what follows it is decided.
+module _ (left : ℕ) (ih : Decided left) (m : ℕ) (c : Collector) (s : List ℕ) (h : 514 * suc left < m)
+    (k : m < length s) where
   on-page : u16At s 0 ≤ 512
       → following (readOn listedCut left) c (listedCut (take m s)) ≡ following (readOn listedCut left) c (listedCut s)
   on-page g =
@@ -76,7 +80,8 @@ module _ (left : ℕ) (ih : Decided left) (m : ℕ) (c : Collector) (s : List �
       (ih (m - (2 + w)) (pageIn c p .collector) (drop (2 + w) s) (omega arith))
       ∙ ap (following (readOn listedCut left) c) (sym (listed-next s (omega arith) (omega arith) g (omega arith)))
 
-  on-bytes : following (readOn listedCut left) c (listedCut (take m s)) ≡ following (readOn listedCut left) c (listedCut s)
+  on-bytes :
+      following (readOn listedCut left) c (listedCut (take m s)) ≡ following (readOn listedCut left) c (listedCut s)
   on-bytes = bool-cases (leb (u16At s 0) 512)
       (λ e. on-page (leb-true (u16At s 0) 512 e))
       (λ e. ap (following (readOn listedCut left) c) (long-first m s (omega arith) k (leb-false (u16At s 0) 512 e)))
@@ -90,7 +95,7 @@ on-first (suc left) m c s h = bool-cases (leb (length s) m)
     ap₂ (λ (a b : Reading). cond (c .complete) a b) (closed-first c m s (omega arith))
     (on-bytes left (on-first left) m c s h k))
 
--- The listing of any bytes is that of their first m, where m is above 514 · 17.
+-- The listing of any bytes is that of their first m, where m is above 17 * 514.
 pub listing-first : (m : ℕ) (s : List ℕ) → 8738 < m → listingOf (take m s) ≡ listingOf s
 unfolding listingOf readRun
 listing-first m s h = ap readingText (on-first 17 m newCollector s h)

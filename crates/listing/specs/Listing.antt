@@ -1,5 +1,5 @@
--- The listing of a run of pages: "The program reads pages, each after its u16 length, and prints exactly this form". A text is
--- the list of its bytes, in ASCII.
+-- The listing of a run of pages: "The program reads pages, each after its u16 length, and prints exactly this form".
+-- A text is the list of its bytes, in ASCII.
 use Prim.Native.Nat.{ℕ, zero, suc, _+_, _/_, _%_}
 use mathlib.Core.List.{List, [], _∷_, _++_}
 use mathlib.Core.Bool.{Bool, cond}
@@ -52,8 +52,8 @@ line (w ∷ x ∷ ws) = w ++ (32 ∷ []) ++ line (x ∷ ws)
 abbrev pub headLine : ℕ → ℕ → List ℕ
 headLine generation count = line (ascii "layout" ∷ decimal generation ∷ ascii "components" ∷ decimal count ∷ [])
 
--- "each further line is id, begin, end, kind (init, bare, extension), stripe count, size (of an extension, its extension size),
--- first target": the words of a component's line from its stripe count on,
+-- "each further line is id, begin, end, kind (init, bare, extension), stripe count, size (of an extension, its
+-- extension size), first target": the words of a component's line from its stripe count on,
 abbrev pub stripingWords : Component → List (List ℕ)
 stripingWords c =
     decimal (c .«stripe_count»)

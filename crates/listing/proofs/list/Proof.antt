@@ -1,4 +1,5 @@
--- `listing::list` meets its contract: the listing is that of the reading, and a reading that is not refused gives a valid layout.
+-- `listing::list` meets its contract: the listing is that of the reading, and a reading that is not refused gives
+-- a valid layout.
 use Prim.Native.Nat.{ℕ, _≤_}
 use mathlib.Core.Path.{_≡_, ap, sym, _∙_}
 use mathlib.Core.List.{List}
@@ -6,7 +7,6 @@ use mathlib.Core.Bool.{true}
 use native.Mathlib.Omega.{arith}
 use denote.Ref.{now}
 use borrow.Author.Tests.{eq-eqb, ne-eqb}
-use Rattle.layout.specs.declared.Layout.{Layout}
 use Rattle.layout.specs.Rules.{valid}
 use Rattle.layout.specs.FactLaws.{valid-facts}
 use Rattle.collector.specs.declared.Reading.{Reading}
@@ -24,7 +24,8 @@ returns c =
     let test = put .before .before in
     let read = test .before .before in
     let r = read .read-listed .result in
-    rw (← read .read-listed .ensures, ne-eqb (r .refusal) 0 (test .if1 .taken)) (put .put-refused .ensures .0, omega arith)
+    rw (← read .read-listed .ensures, ne-eqb (r .refusal) 0 (test .if1 .taken))
+    (put .put-refused .ensures .0, omega arith)
 
 -- A reading that is not refused has at most 16 components.
 few : (r : Reading) (s : List ℕ) → r ≡ readRun listedCut s → r .refusal ≡ 0 → r .layout .count ≤ 16
@@ -37,7 +38,8 @@ put-layout-requires : tie.Need-put-layout-requires
 put-layout-requires c κs =
     let read = c .before .before .before .before in
     let a = read .before .before .before .args in
-    (few (read .read-listed .result) (now (a .input)) (read .read-listed .ensures) (c .before .before .if1 .left), omega arith)
+    let r = read .read-listed in
+    (few (r .result) (now (a .input)) (r .ensures) (c .before .before .if1 .left), omega arith)
 
 returns-2 : tie.Need-returns-2
 unfolding listingOf

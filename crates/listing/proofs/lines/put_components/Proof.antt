@@ -1,6 +1,7 @@
--- `listing::lines::put_components` meets its contract: all lines are those from component i on, written to the buffer as it is.
+-- `listing::lines::put_components` meets its contract: what all lines give is what those from component i on
+-- give to the buffer as it is.
 use Prim.Native.Nat.{_+_, _*_, _≤_, _-_}
-use mathlib.Core.Path.{_≡_, refl, sym, ap, _∙_}
+use mathlib.Core.Path.{_≡_, refl, sym, _∙_}
 use native.Mathlib.Omega.{arith}
 use lib.ListN.{length, getD}
 use lib.Seq.{sets, slice}
@@ -59,5 +60,5 @@ returns c =
 pub put-components-spec : {M : Type 1} → statement M
 put-components-spec =
     tie.close
-    (tie.spec Inv-loop μ-loop loop-holds (λ c. search needs) (λ c. search needs) (λ c κs. search needs) (λ c. search needs)
-    (λ c. search needs) loop-again (λ c. search needs) returns)
+    (tie.spec Inv-loop μ-loop loop-holds (λ c. search needs) (λ c. search needs) (λ c κs. search needs)
+    (λ c. search needs) (λ c. search needs) loop-again (λ c. search needs) returns)

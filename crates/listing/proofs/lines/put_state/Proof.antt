@@ -3,7 +3,7 @@ use mathlib.Core.List.{[], _∷_, _++_}
 use native.Mathlib.Omega.{arith}
 use denote.Ref.{now}
 use Rattle.listing.specs.Listing.{endWord, kindWord, stripingWords, line}
-use Rattle.listing.proofs.Writing.{both}
+use Rattle.listing.proofs.Writing.{both, more}
 use borrow.Author.Needs.{needs}
 use Rattle.listing.proofs.lines.put_state.Statement.{statement}
 use Rattle.listing.proofs.lines.put_state.Tie as tie
@@ -15,8 +15,7 @@ returns c =
     let first = second .before .before .before .before in
     let a = first .before .before .before .args in
     let kind = kindWord (a .c .init) (a .c .extension) in (
-      both (now (a .out)) _ _ (endWord (a .c .end) ++ (32 ∷ [])) (line (kind ∷ stripingWords (a .c))) (a .at) _ _
-          (first .put-end .ensures .0)
+      more (now (a .out)) _ _ (endWord (a .c .end)) kind (stripingWords (a .c)) (a .at) _ _ (first .put-end .ensures .0)
           (both _ _ _ (kind ++ (32 ∷ [])) (line (stripingWords (a .c))) _ _ _ (second .put-kind .ensures .0)
           (third .put-striping .ensures .0)),
       omega arith,

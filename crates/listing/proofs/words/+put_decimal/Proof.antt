@@ -1,15 +1,12 @@
--- `listing::words::put_decimal` meets its contract: a number below ten is one digit, and any other its tenth, and its last digit behind
--- that. The measure is the number.
-use Prim.Native.Nat.{ℕ, _+_, _/_, _≤_, _<_}
-use mathlib.Core.Path.{_≡_, refl, ap, _∙_}
-use mathlib.Core.List.{List, [], _∷_, _++_}
+-- `listing::words::put_decimal` meets its contract: a number below ten is one digit, and any other its tenth, and its
+-- last digit behind that. The measure is the number.
+use Prim.Native.Nat.{ℕ, _+_, _/_, _<_}
 use native.Mathlib.Omega.{arith}
-use lib.ListN.{length, length-append}
 use denote.Ref.{now}
 use borrow.Author.Needs.{needs}
 use Rattle.listing.specs.Listing.{digit, decimal}
 use Rattle.listing.specs.DecimalLaws.{decimal-one, decimal-more, length-one, length-more}
-use Rattle.listing.proofs.Writing.{Wrote, byte-behind}
+use Rattle.listing.proofs.Writing.{byte-behind}
 use borrow.Fn.Kinds.{In}
 use borrow.Fn.PlainCycle.{Measures, is, falls, and}
 use Rattle.listing.proofs.words.put_decimal.Reads as put-decimal

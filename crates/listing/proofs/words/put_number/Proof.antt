@@ -1,5 +1,5 @@
--- `listing::words::put_number` meets its contract: the byte is stored where the digits end, and there are at most 20 of them.
-use mathlib.Core.Path.{_≡_}
+-- `listing::words::put_number` meets its contract: the byte is stored where the digits end, and there are at most 20 of
+-- them.
 use native.Mathlib.Omega.{arith}
 use denote.Ref.{now}
 use Rattle.listing.specs.Listing.{decimal}
@@ -31,7 +31,8 @@ returns c =
     let call = c .before .before in
     let first = call .before .before .before in
     let a = first .args in (
-      byte-behind (now (a .out)) _ (decimal (a .n)) (a .at) (call .put-decimal .result) (a .behind) (call .put-decimal .ensures),
+      byte-behind (now (a .out)) _ (decimal (a .n)) (a .at) (call .put-decimal .result) (a .behind)
+          (call .put-decimal .ensures),
       omega (arith, length-decimal (a .n)),
     )
 

@@ -1,7 +1,8 @@
--- `listing::words::put_signed` meets its contract: by the bits of the number, and behind the sign of a negative one stands what it is below 0.
+-- `listing::words::put_signed` meets its contract: by the bits of the number, and behind the sign of a negative one
+-- stands what it is below 0.
 use Prim.Native.Nat.{ℕ, _+_, _-_}
 use mathlib.Core.Path.{_≡_, refl, sym, ap, _∙_}
-use mathlib.Core.List.{List, [], _∷_, _++_}
+use mathlib.Core.List.{[], _∷_, _++_}
 use native.Mathlib.Omega.{arith}
 use lib.ListN.{length-set, set}
 use mir.Facts.{toZ-ofZ}
@@ -26,15 +27,13 @@ returns c =
     rw s (call .put-number .ensures .0, omega arith)
 
 put-number-requires-2 : tie.Need-put-number-requires-2
-put-number-requires-2 c κs =
-    let a = c .before .before .before .before .args in
-    omega (arith, length-set (now (a .out)) (a .at) 45)
+put-number-requires-2 c κs = rw length-set (omega arith)
 
 same-length-2 : tie.Need-same-length-2
 same-length-2 c =
     let call = c .before .before in
     let a = call .before .before .before .before .before .args in
-    call .put-number2 .kept .0 ∙ length-set (now (a .out)) (a .at) 45
+    call .put-number2 .kept .0 ∙ length-set (now (a .out)) (a .at) _
 
 returns-2 : tie.Need-returns-2
 returns-2 c =
@@ -44,12 +43,13 @@ returns-2 c =
     let a = first .args in
     let f = first .fits .z in
     let n = bits .bits-of .result in
+    let out = now (a .out) in
     let e : n ≡ bitsOf (a .z) = bits .bits-of .ensures ∙ ap bitsOf (toZ-ofZ f) in
     let s : signed (a .z) ≡ 45 ∷ decimal (4294967296 - n) =
     signed-minus (a .z) f (omega arith) ∙ ap (λ (k : ℕ). 45 ∷ decimal (4294967296 - k)) (sym e) in
     rw s (
-      both (now (a .out)) (set (now (a .out)) (a .at) 45) _ (45 ∷ []) (decimal (4294967296 - n) ++ (a .behind ∷ [])) (a .at)
-          (a .at + 1) _ (refl, refl) (call .put-number2 .ensures .0),
+      both out (set out (a .at) 45) _ (45 ∷ []) (decimal (4294967296 - n) ++ (a .behind ∷ [])) (a .at) (a .at + 1) _
+          (refl, refl) (call .put-number2 .ensures .0),
       omega arith,
     )
 

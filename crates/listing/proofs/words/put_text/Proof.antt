@@ -1,6 +1,7 @@
--- `listing::words::put_text` meets its contract: all stores give what those from byte i of the text on give to the buffer as it is.
-use Prim.Native.Nat.{_+_, _≤_, _<_, _-_}
-use mathlib.Core.Path.{_≡_, refl, sym, ap, _∙_}
+-- `listing::words::put_text` meets its contract: all stores give what those from byte i of the text on give to the
+-- buffer as it is.
+use Prim.Native.Nat.{_+_, _≤_, _-_}
+use mathlib.Core.Path.{_≡_, refl, sym, _∙_}
 use native.Mathlib.Omega.{arith}
 use native.Mathlib.Nat.{add-zero}
 use lib.ListN.{length, getD}

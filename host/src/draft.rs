@@ -6,10 +6,12 @@ pub const EXTENSION: u16 = 2;
 pub const MORE: u16 = 1;
 pub const EOF: u64 = u64::MAX;
 pub const MAX_PAGE_BYTES: usize = 512;
+/// 16 pages, each with one component of 16 object records
+pub const MAX_LAYOUT_BYTES: usize = 4992;
 
-const HEAD_BYTES: usize = 16;
-const COMPONENT_BYTES: usize = 40;
-const OBJECT_BYTES: usize = 16;
+pub const HEAD_BYTES: usize = 16;
+pub const COMPONENT_BYTES: usize = 40;
+pub const OBJECT_BYTES: usize = 16;
 
 #[derive(Clone, Copy, Debug, PartialEq, Eq, Hash)]
 pub struct Object {
@@ -147,11 +149,22 @@ impl Layout {
 
     /// The pages where a new page also starts before each component for which `breaks` says so.
     pub fn pages_with_breaks(&self, mut breaks: impl FnMut(usize) -> bool) -> Vec<Page> {
+        self.pages_where(|place, fits| !fits || breaks(place))
+    }
+
+    /// The pages where a new page starts before just these components, so a page may have more than 512 bytes.
+    pub fn pages_broken_at(&self, places: &[usize]) -> Vec<Page> {
+        self.pages_where(|place, _| places.contains(&place))
+    }
+
+    /// The pages where a new page starts before each component for which `starts` says so, by its place and whether it
+    /// fits in the current page.
+    fn pages_where(&self, mut starts: impl FnMut(usize, bool) -> bool) -> Vec<Page> {
         let mut pages: Vec<Page> = Vec::new();
         let mut length = 0;
         for (place, component) in self.components.iter().enumerate() {
             let fits = length + component.length() <= MAX_PAGE_BYTES;
-            if pages.is_empty() || !fits || breaks(place) {
+            if pages.is_empty() || starts(place, fits) {
                 pages.push(Page {
                     flags: MORE,
                     number: pages.len() as u16,

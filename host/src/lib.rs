@@ -2,11 +2,13 @@
 //!
 //! - [`ffi`]: the five entry points of the static library, as safe calls on slices.
 //! - [`paper`]: an independent program for the same calls and for the listing, written from document 01 alone.
+//! - [`listing`]: the listing program, run as a process.
 //! - [`draft`]: layouts as plain records, right or wrong, and their pages in any paging, for tests and benchmark.
 //! - [`random`]: a small random generator with a seed.
 
 pub mod draft;
 pub mod ffi;
+pub mod listing;
 pub mod paper;
 pub mod random;
 

@@ -2,7 +2,7 @@
 //! byte that was lent, and counts the answers.
 
 use crate::events::Events;
-use moorsickle_host::draft::{Component, Layout};
+use moorsickle_host::draft::{Component, Layout, MAX_LAYOUT_BYTES};
 use moorsickle_host::paper::{Step, step_due};
 use moorsickle_host::random::Random;
 use moorsickle_host::{Answer, Grow, INDEPENDENT, LIBRARY};
@@ -27,7 +27,6 @@ const OWN_NUMBERS: [&[usize]; 5] = [
 /// Cells around lent memory that no call may change.
 const GUARD: usize = 8;
 const MOST_DIFFERENCES: usize = 20;
-const MAX_LAYOUT_BYTES: usize = 4992;
 
 /// Lent memory between guards, filled at random.
 #[derive(Clone, PartialEq)]

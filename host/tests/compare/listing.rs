@@ -3,12 +3,11 @@
 use crate::damage::{damage_bytes, damage_pages, pick_damage, record_places};
 use crate::layouts;
 use moorsickle_host::draft::Page;
+use moorsickle_host::listing::printed;
 use moorsickle_host::paper;
 use moorsickle_host::random::Random;
 use std::collections::BTreeMap;
 use std::env;
-use std::io::Write;
-use std::process::{Command, Stdio};
 
 const CASES: u64 = 3000;
 
@@ -24,15 +23,7 @@ pub fn compare_program(seed: u64) {
         let random = &mut Random::new(seed.rotate_left(32) ^ case << 20);
         let input = input(random);
         let wanted = paper::list(&input);
-        let mut child = Command::new(&program)
-            .stdin(Stdio::piped())
-            .stdout(Stdio::piped())
-            .spawn()
-            .expect("the listing program starts");
-        // The program may stop reading before the end of its input.
-        let _ = child.stdin.take().map(|mut stdin| stdin.write_all(&input));
-        let output = child.wait_with_output().expect("the listing program ends");
-        let printed = String::from_utf8_lossy(&output.stdout);
+        let printed = printed(&program, &input).expect("the listing program runs");
         assert_eq!(printed, wanted, "seed {seed} listing {case}, input {input:02x?}");
         *counts.entry(kind(&wanted)).or_insert(0) += 1;
     }

@@ -3,7 +3,7 @@
 use crate::numbers::{number, records, signed, small};
 use moorsickle_host::draft::{Component, EOF, EXTENSION, INIT, Layout, Object};
 
-/// The layout of these lines. Also gives the places of the components before which a line `next page` stands.
+/// The layout of these lines. Also gives the places of the components that come after a line `next page`.
 pub fn layout(lines: &[String]) -> Result<(Layout, Vec<usize>), String> {
     let (head, lines) = lines.split_first().ok_or("a layout has no lines")?;
     let (generation, count) = match words(head)[..] {

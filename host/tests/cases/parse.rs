@@ -137,7 +137,7 @@ impl Reader {
         Some((definition.line, format!("no case uses `{name}`")))
     }
 
-    /// `define NAME`: a layout, paged by the writer's rule. `define pages NAME`: paged only where `next page` stands.
+    /// `define NAME`: a layout, paged by the writer's rule. `define pages NAME`: paged by its lines `next page` alone.
     fn define(&mut self, block: &Block) -> Result<(), String> {
         let (layout, breaks) = layout(&block.details)?;
         let (name, pages) = match words(&block.head)[..] {
@@ -178,6 +178,9 @@ impl Reader {
         };
         let question = question(&words(asked))?;
         let run = self.run(run)?;
+        if run.is_listed_only() && !matches!(question, Question::List) {
+            return Err(String::from("`length` and `input` are only for `list`"));
+        }
         let (answer, other) = match answer.split_once(", back to back ") {
             Some((answer, other)) if matches!(question, Question::Read) => (answer, Some(other)),
             _ => (answer, None),

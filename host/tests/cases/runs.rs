@@ -3,6 +3,7 @@
 use crate::layouts::words;
 use crate::numbers::{hex, signed, small};
 use moorsickle_host::draft::{COMPONENT_BYTES, HEAD_BYTES, INIT, OBJECT_BYTES};
+use std::ops::Range;
 
 /// A field of a record: its name, its place after the record's begin, and how many bytes it has.
 type Field = (&'static str, usize, usize);
@@ -73,6 +74,11 @@ impl Run {
         bytes
     }
 
+    /// Has it changes that only the listing's input can show?
+    pub fn is_listed_only(&self) -> bool {
+        self.end.is_some() || self.pages.iter().any(|page| page.length.is_some())
+    }
+
     /// The run, and after it the other.
     pub fn then(mut self, other: Run) -> Run {
         self.pages.extend(other.pages);
@@ -118,18 +124,25 @@ impl Run {
     fn change(&self, run: &mut Run, record: &[&str], field: &str, value: &str) -> Result<(), String> {
         match (record, field) {
             (["input"], "cut-to") => run.end = Some(small(value)?),
-            (["page", page], "cut-to") => run.page(page)?.bytes.truncate(small(value)?),
+            (["page", page], "cut-to") => {
+                let bytes = &mut run.page(page)?.bytes;
+                let length = Some(small(value)?).filter(|length| *length < bytes.len());
+                bytes.truncate(length.ok_or("nothing to cut")?);
+            }
             (["page", page], "plus") => run.page(page)?.bytes.extend(hex(value)?),
             (["page", page], "length") => run.page(page)?.length = Some(small(value)?),
             (["page", page], _) => set(run.page(page)?, 0, &HEAD, field, value)?,
             (["component", component], _) => {
-                let (page, at) = self.component(component)?;
-                set(&mut run.pages[page], at, &COMPONENT, field, value)?;
+                let (page, records) = self.component(component)?;
+                set(&mut run.pages[page], records.start, &COMPONENT, field, value)?;
             }
             (["component", component, "object", object], _) => {
-                let (page, at) = self.component(component)?;
-                let before = small::<usize>(object)?.wrapping_sub(1);
-                let at = at + COMPONENT_BYTES + before.saturating_mul(OBJECT_BYTES);
+                let (page, records) = self.component(component)?;
+                let mut objects = records.skip(COMPONENT_BYTES).step_by(OBJECT_BYTES);
+                let at = small::<usize>(object)?
+                    .checked_sub(1)
+                    .and_then(|before| objects.nth(before));
+                let at = at.ok_or(format!("no object {object}"))?;
                 set(&mut run.pages[page], at, &OBJECT, field, value)?;
             }
             _ => return Err(String::from("no such change")),
@@ -142,18 +155,19 @@ impl Run {
         self.pages.get_mut(place).ok_or(format!("no page {page}"))
     }
 
-    /// The page and the place in it of a component. They are counted from 1, over all pages.
-    fn component(&self, component: &str) -> Result<(usize, usize), String> {
+    /// The page of a component, and where in it its records lie. Components are counted from 1, over all pages.
+    fn component(&self, component: &str) -> Result<(usize, Range<usize>), String> {
         let mut left: usize = small(component)?;
         for (page, Page { bytes, .. }) in self.pages.iter().enumerate() {
             let mut at = HEAD_BYTES;
             while let Some(record) = bytes.get(at..at + COMPONENT_BYTES) {
+                let objects = if record[2] & INIT as u8 == 0 { 0 } else { record[6] };
+                let end = at + COMPONENT_BYTES + usize::from(objects) * OBJECT_BYTES;
                 left = left.wrapping_sub(1);
                 if left == 0 {
-                    return Ok((page, at));
+                    return Ok((page, at..end));
                 }
-                let objects = if record[2] & INIT as u8 == 0 { 0 } else { record[6] };
-                at += COMPONENT_BYTES + usize::from(objects) * OBJECT_BYTES;
+                at = end;
             }
         }
         Err(format!("no component {component}"))
@@ -170,10 +184,10 @@ fn set(page: &mut Page, at: usize, fields: &[Field], field: &str, value: &str) -
         _ => small::<u64>(value)?.to_le_bytes().to_vec(),
     };
     if bytes.iter().skip(width).any(|byte| *byte != 0) || bytes.len() < width {
-        return Err(format!("`{value}` has not {width} bytes"));
+        return Err(format!("`{value}` does not have {width} bytes"));
     }
-    let begin = at.saturating_add(place);
-    let cells = page.bytes.get_mut(begin..begin.saturating_add(width));
+    let begin = at + place;
+    let cells = page.bytes.get_mut(begin..begin + width);
     cells.ok_or("no such record")?.copy_from_slice(&bytes[..width]);
     Ok(())
 }

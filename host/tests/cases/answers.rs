@@ -2,6 +2,7 @@
 //! guards and is filled; the answer also says so if anything else was written than the results.
 
 use crate::layouts::lines;
+use crate::numbers::joined;
 use crate::parse::{Growth, Question, table_line};
 use moorsickle_host::draft::{Layout, MAX_LAYOUT_BYTES, MAX_PAGE_BYTES};
 use moorsickle_host::{Program, paper};
@@ -60,13 +61,7 @@ pub fn ask(program: &Program, pages: &[u8], question: &Question) -> Vec<String> 
         Question::Cut { offset, length, room } => cut(program, pages, (offset, length), room),
         Question::Page { number, room } => page(program, pages, number, room),
         Question::Write => match written(program, pages) {
-            Ok(pages) => vec![
-                pages
-                    .iter()
-                    .map(|page| page.len().to_string())
-                    .collect::<Vec<_>>()
-                    .join(" "),
-            ],
+            Ok(pages) => vec![joined(pages.iter().map(Vec::len), " ")],
             Err(answer) => answer,
         },
         Question::Grow(ref growth) => grow(program, pages, growth),
@@ -99,8 +94,7 @@ fn cut(program: &Program, pages: &[u8], (offset, length): (u64, u64), room: usiz
         return changed_too_much();
     };
     let mut answer = vec![format!("{count} pieces")];
-    let piece = |piece: &[u64]| piece.iter().map(u64::to_string).collect::<Vec<_>>().join(" ");
-    let pieces: Vec<String> = numbers.chunks(5).map(piece).collect();
+    let pieces: Vec<String> = numbers.chunks(5).map(|piece| joined(piece, " ")).collect();
     match pieces.as_slice() {
         [first, .., last] if pieces.len() > MOST_SHOWN => {
             answer.push(format!("first {first}"));
@@ -244,9 +238,5 @@ fn shown(pages: &[u8]) -> Vec<String> {
 }
 
 fn hex(bytes: &[u8]) -> String {
-    bytes
-        .iter()
-        .map(|byte| format!("{byte:02X}"))
-        .collect::<Vec<_>>()
-        .join(" ")
+    joined(bytes.iter().map(|byte| format!("{byte:02X}")), " ")
 }

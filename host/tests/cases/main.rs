@@ -13,6 +13,7 @@ mod runs;
 use answers::{ask, one_of_each};
 use layouts::listed;
 use moorsickle_host::{INDEPENDENT, LIBRARY, Program, listing, paper};
+use numbers::joined;
 use parse::{Case, Fault, Question, Reader};
 use std::collections::{BTreeMap, BTreeSet};
 use std::ffi::OsString;
@@ -103,7 +104,7 @@ struct Tally {
     listing: OsString,
     cases: BTreeMap<&'static str, u64>,
     /// calls and the refusals that they gave
-    numbers: BTreeSet<(&'static str, u32)>,
+    refusals: BTreeSet<(&'static str, u32)>,
     failed: u64,
 }
 
@@ -112,7 +113,7 @@ impl Tally {
         Tally {
             listing,
             cases: BTreeMap::new(),
-            numbers: BTreeSet::new(),
+            refusals: BTreeSet::new(),
             failed: 0,
         }
     }
@@ -157,7 +158,7 @@ impl Tally {
         match question {
             Question::Read => one_of_each().iter().for_each(|question| self.note(question, number)),
             question => {
-                self.numbers.insert((call(question), number));
+                self.refusals.insert((call(question), number));
             }
         }
     }
@@ -169,33 +170,25 @@ impl Tally {
         let ours = listing::printed(&self.listing, &input).unwrap_or_else(|error| format!("{error}\n"));
         let theirs = paper::list(&input);
         [("listing program", ours), ("independent listing", theirs)].map(|(name, printed)| {
-            let mut answer: Vec<String> = printed.split('\n').map(String::from).collect();
-            // What is printed ends with a line feed.
-            if answer.last().is_some_and(String::is_empty) {
-                answer.pop();
-            }
+            let lines = printed
+                .strip_suffix('\n')
+                .unwrap_or("no line feed at the end")
+                .split('\n');
+            let answer: Vec<String> = lines.map(String::from).collect();
             difference(name, &wanted, &answer)
         })
     }
 
     /// Prints the counts. Fails if a case did, or if a number never came that a call can give.
     fn finish(&self, all: bool) -> Result<(), String> {
-        let counts: Vec<String> = self
-            .cases
-            .iter()
-            .map(|(call, count)| format!("{call} {count}"))
-            .collect();
         let count: u64 = self.cases.values().sum();
-        println!("{count} cases: {}", counts.join(", "));
+        let counts = self.cases.iter().map(|(call, count)| format!("{call} {count}"));
+        println!("{count} cases: {}", joined(counts, ", "));
         let mut missing = Vec::new();
         for (call, own) in OWN_NUMBERS {
-            let numbers = (1..=8).chain(own.iter().copied());
-            missing.extend(
-                numbers
-                    .map(|number| (call, number))
-                    .filter(|pair| !self.numbers.contains(pair)),
-            );
+            missing.extend((1..=8).chain(own.iter().copied()).map(|number| (call, number)));
         }
+        missing.retain(|refusal| !self.refusals.contains(refusal));
         if self.failed > 0 || count == 0 {
             return Err(format!("{} of {count} cases", self.failed));
         }

@@ -109,5 +109,11 @@ fn row(first: &[u64], last: &[u64]) -> Result<Vec<Vec<u64>>, String> {
 /// The line with each number in decimal.
 pub fn plain(line: &str) -> String {
     let word = |word| number(word).map_or(String::from(word), |number| number.to_string());
-    line.split_whitespace().map(word).collect::<Vec<_>>().join(" ")
+    joined(line.split_whitespace().map(word), " ")
+}
+
+/// All of these as one text.
+pub fn joined<T: ToString>(items: impl IntoIterator<Item = T>, between: &str) -> String {
+    let items: Vec<String> = items.into_iter().map(|item| item.to_string()).collect();
+    items.join(between)
 }

@@ -1,7 +1,7 @@
 //! Reads files of cases. README.md says how they are written.
 
 use crate::layouts::{layout, lines, words};
-use crate::numbers::{number, plain, records, small};
+use crate::numbers::{joined, number, plain, records, small};
 use crate::runs::Run;
 use moorsickle_host::draft::{Layout, MAX_LAYOUT_BYTES};
 use std::collections::{BTreeMap, BTreeSet};
@@ -326,7 +326,6 @@ fn table_of(words: &[&str]) -> Result<Vec<u64>, String> {
 
 /// The line of a free table.
 pub fn table_line(table: &[u64]) -> String {
-    let record = |record: &[u64]| format!(" {}", record.iter().map(u64::to_string).collect::<Vec<_>>().join(":"));
-    let records: String = table.chunks(3).map(record).collect();
-    format!("table{records}")
+    let records = table.chunks(3).map(|record| joined(record, ":"));
+    format!("table {}", joined(records, " "))
 }

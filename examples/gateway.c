@@ -1,5 +1,5 @@
 /* A small gateway. It reads the pages of a file's layout, cuts a read request into pieces, and prints what it would
- * fetch from which target. Where a byte of the request has no home yet, it grows the layout first.
+ * fetch from which target. If a byte of the request has no home yet, it grows the layout first.
  *
  *     gateway PAGES OFFSET LENGTH [LOW-MARK]
  *
@@ -23,7 +23,7 @@
 /* A request that takes more steps of growth than this is given up. */
 #define MOST_STEPS 64
 
-/* What stands for "given up" beside the refusal numbers. */
+/* "Given up", as a number that is no refusal number. */
 #define GIVEN_UP UINT32_MAX
 
 /* A layout, as its pages back to back. No layout has more bytes of pages. */
@@ -96,8 +96,8 @@ static int read_layout(const char *name, struct layout *l)
     return whole;
 }
 
-/* The first byte of the request that has no home, where cutting refused the request by 11. Cutting refuses by 11
- * exactly the requests that ask for such a byte; so the byte is found by halving the request. */
+/* The first byte of the request that has no home, if cutting refused the request by 11. Cutting refuses by 11 exactly
+ * the requests that ask for such a byte; so the byte is found by halving the request. */
 static uint64_t first_without_home(const struct layout *l, uint64_t offset, uint64_t length)
 {
     uint64_t with_home = 0; /* so many bytes from the offset on are known to have homes */
@@ -165,7 +165,7 @@ int main(int argc, char **argv)
         return 2;
     }
 
-    /* Cut the request. Where a byte of it has no home, grow the layout for that byte and cut again. */
+    /* Cut the request. If a byte of it has no home, grow the layout for that byte and cut again. */
     while ((refusal = moorsickle_cut(l.pages, l.length, offset, length, (uint64_t *)pieces, NUMBERS(pieces), &count))
            == MOORSICKLE_NOT_INIT) {
         refusal = grow_for(&l, first_without_home(&l, offset, length), low_mark, &steps);

@@ -8,18 +8,19 @@
  * object byte from the object's start; pages and stripes are counted from 0. The length of a lent buffer (size_t) is
  * counted in its elements: bytes for uint8_t, numbers for uint64_t.
  *
- * Answers. Every call returns 0 where it is done, else the number of a refusal (below). A refusal of the pages, 1 to 8,
- * comes first; then the call gives the lowest of its own numbers that applies. A call writes only where it returns 0;
- * where it returns anything else, all memory that it was lent is as it was.
+ * Answers. Every call returns 0 if it is done, else the number of a refusal (below). A refusal of the pages, 1 to 8,
+ * comes first; then the call gives the lowest of its own numbers that applies. A call writes only if it returns 0;
+ * if it returns anything else, all memory that it was lent is as it was. docs/FORMAT.md says what to look for under
+ * each number, and has the bytes of a page and the rules.
  *
  * Memory. All memory is the caller's, before and after a call. The library allocates nothing and keeps nothing between
  * calls, neither values nor pointers; so calls may run in several threads at a time, as long as none writes what
  * another uses.
  *
- * Pointers. A pointer that comes with a length is valid for that many elements, to read where it is const, else to read
- * and write; it may be null only where the length is 0. A pointer with no length is valid for one element, or for as
- * many as its brackets say, and is never null. A pointer to uint64_t is aligned as such. What a call may write overlaps
- * nothing else that is lent to the same call. All this is for the caller to see to: the library cannot check it.
+ * Pointers. A pointer that comes with a length is valid for that many elements, to read if it is const, else to read
+ * and write; it may be null only if the length is 0. A pointer with no length is valid for one element, or for as many
+ * as its brackets say, and is never null. A pointer to uint64_t is aligned as such. What a call may write overlaps
+ * nothing else that is lent to the same call. The caller must make sure of all this: the library cannot check it.
  *
  * An example, which finds the place of a file byte:
  *
@@ -58,9 +59,9 @@ enum {
 
     /* Refusals of the pages, by every call. */
 
-    /* the bytes end with pages outstanding; also where there are no bytes */
+    /* the bytes end with pages outstanding; also if there are no bytes */
     MOORSICKLE_NOT_COMPLETE = 1,
-    /* bytes stand after the last page */
+    /* bytes come after the last page */
     MOORSICKLE_AFTER_LAST_PAGE = 2,
     /* the bytes of a page are not of the form of a page; also a page that is cut short or longer than 512 bytes */
     MOORSICKLE_FORM = 3,
@@ -79,15 +80,15 @@ enum {
 
     /* offset + length is above 2^64 - 1: cut */
     MOORSICKLE_REQUEST_END = 9,
-    /* a byte asked for lies at or past the last component's end: lookup, cut, grow */
+    /* a byte asked for is at or past the last component's end: lookup, cut, grow */
     MOORSICKLE_PAST_END = 10,
-    /* a byte asked for lies in a component that is not init, so it has no home yet: lookup, cut */
+    /* a byte asked for is in a component that is not init, so it has no home yet: lookup, cut */
     MOORSICKLE_NOT_INIT = 11,
     /* more pieces than 256, or than the lent room takes: cut */
     MOORSICKLE_PIECES = 12,
     /* the object is not in the layout: back */
     MOORSICKLE_NO_OBJECT = 13,
-    /* the object byte is hidden: its file byte lies outside the object's component, or is not below 2^64: back */
+    /* the object byte is hidden: its file byte is outside the object's component, or is not below 2^64: back */
     MOORSICKLE_HIDDEN = 14,
     /* the free table is bad: grow */
     MOORSICKLE_TABLE = 15,
@@ -95,7 +96,7 @@ enum {
     MOORSICKLE_TOO_FEW_TARGETS = 16,
     /* the step would leave 17 components: grow */
     MOORSICKLE_GROWN_OVER_16 = 17,
-    /* a chosen target and number already stand in the layout: grow */
+    /* a chosen target and number are in the layout already: grow */
     MOORSICKLE_OBJECT_IN_LAYOUT = 18,
     /* a change is due and the generation is 2^32 - 1: grow */
     MOORSICKLE_GENERATION = 19,
@@ -118,7 +119,7 @@ enum {
 /* Names for the numbers in the arrays that the calls take, in their order. Such a struct, or an array of them, may be
  * lent as the array of numbers, by a cast to uint64_t *; lengths are still counted in numbers. */
 
-/* Where a file byte lies: the byte `byte` of the object with this target and number. */
+/* Where a file byte is stored: the byte `byte` of the object with this target and number. */
 struct moorsickle_home {
     uint64_t target;
     uint64_t number;
@@ -184,8 +185,8 @@ uint32_t moorsickle_cut(const uint8_t *pages, size_t pages_len, uint64_t offset,
  * stay. The page is cut by the writer's rule, whatever the paging of `pages`: a component goes into the current page if
  * it fits in 512 bytes, else it starts the next. No page needs more than MOORSICKLE_MAX_PAGE_BYTES. Pages are numbered
  * from 0 without gaps.
- * Refusals: 1 to 8 of the pages; 4 where the layout has no page of this number; 20. Once a page has been written, 4 can
- * only mean the second. */
+ * Refusals: 1 to 8 of the pages; 4 also if the layout has no page of this number; 20. Once a page has been written, 4
+ * can only mean the second. */
 uint32_t moorsickle_page(const uint8_t *pages, size_t pages_len, uint64_t number, uint8_t *buffer, size_t buffer_len,
                          uint64_t *written);
 
@@ -197,10 +198,10 @@ uint32_t moorsickle_page(const uint8_t *pages, size_t pages_len, uint64_t number
  * rule; and to `answer` their length, and 1 if the file byte has a home now, else 0. In the table, the next number of
  * each target that got a new object goes up by 1. Nothing else in `grown` and in the table changes. No layout needs
  * more than MOORSICKLE_MAX_LAYOUT_BYTES. `pages` stays as it is: the caller goes on with what is in `grown`.
- * One step may not reach the file byte: call again, with the new pages. Bytes that have homes keep them. Where the byte
+ * One step may not reach the file byte: call again, with the new pages. Bytes that have homes keep them. If the byte
  * has a home already the layout does not change; each change adds 1 to its generation.
- * Refusals: 1 to 8 of the pages; 10; 15 where table_len is no multiple of 3, or there are more than 64 records, or
- * targets do not rise strictly, or one is above 65,534; 16, 17, 18, 19; 20, asked last. */
+ * Refusals: 1 to 8 of the pages; 10; 15 if table_len is no multiple of 3, or there are more than 64 records, or targets
+ * do not rise strictly, or one is above 65,534; 16, 17, 18, 19; 20, asked last. */
 uint32_t moorsickle_grow(const uint8_t *pages, size_t pages_len, uint64_t offset, uint64_t low_mark, uint64_t *table,
                          size_t table_len, uint8_t *grown, size_t grown_len, uint64_t answer[2]);
 

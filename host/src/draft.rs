@@ -147,7 +147,7 @@ impl Layout {
         self.pages_with_breaks(|_| false)
     }
 
-    /// The pages where a new page also starts before each component for which `breaks` says so.
+    /// The pages, with a new page also started before each component for which `breaks` says so.
     pub fn pages_with_breaks(&self, mut breaks: impl FnMut(usize) -> bool) -> Vec<Page> {
         self.pages_where(|place, fits| !fits || breaks(place))
     }

@@ -19,8 +19,8 @@ pub type Answer = Result<(), u32>;
 /// home.
 pub type Grow = fn(&[u8], u64, u64, &mut [u64], &mut [u8], &mut [u64; 2]) -> Answer;
 
-/// The five calls of one program, so that two programs can be compared and timed alike. The pages of the layout stand
-/// back to back in the first slice. Where a call refuses, everything lent to it stays as it was.
+/// The five calls of one program, so that two programs can be compared and timed alike. The pages of the layout are
+/// back to back in the first slice. If a call refuses, everything lent to it stays as it was.
 pub struct Program {
     pub name: &'static str,
     /// pages, offset; writes the home: target, number, byte

@@ -64,7 +64,7 @@ fn grow(pages: &[u8], offset: u64, mark: u64, table: &mut [u64]) -> Result<(Vec<
     Ok((grown[..answer[0] as usize].to_vec(), answer[1] == 1))
 }
 
-/// The listing of pages that stand back to back.
+/// The listing of pages that are back to back.
 fn list(bytes: &[u8]) -> String {
     paper::list(&with_lengths(&Layout::read(bytes).pages()))
 }

@@ -53,7 +53,7 @@ pub struct Component<'a> {
 }
 
 impl<'a> Component<'a> {
-    /// Stands in places of a list that hold no component yet.
+    /// Fills the places of a list that hold no component yet.
     pub const NONE: Component<'static> = Component {
         record: &[0; COMPONENT_BYTES],
         objects: &[],

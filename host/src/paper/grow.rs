@@ -55,7 +55,7 @@ impl<'t> FreeTable<'t> {
         usable.take(count).count() == count
     }
 
-    /// The `count` usable targets with the lowest targets, or none where there are fewer.
+    /// The `count` usable targets with the lowest targets, or none if there are fewer.
     fn choose(&self, count: usize) -> Option<Chosen> {
         let mut chosen = Chosen::nothing();
         for (place, record) in self.records.iter().enumerate() {
@@ -93,7 +93,7 @@ impl Chosen {
     }
 }
 
-/// The steps. K is the component that holds the offset. Where K is an extension it is X, C is the component before it,
+/// The steps. K is the component that holds the offset. If K is an extension it is X, C is the component before it,
 /// N the one after it, and Y the extension after N.
 #[derive(Clone, Copy, Debug, PartialEq, Eq, PartialOrd, Ord)]
 pub enum Step {
@@ -263,7 +263,7 @@ fn first_bytes_end(extension: &Component, begin: u64) -> u64 {
     begin + extension.extension_size().min(extension.end() - begin)
 }
 
-/// The extension from `begin` on, or none where that is empty.
+/// The extension from `begin` on, or none if that is empty.
 fn rest_from(extension: &Component, begin: u64) -> Option<ComponentRecord> {
     (begin < extension.end()).then(|| extension.with_extent(begin, extension.end()))
 }
@@ -321,7 +321,7 @@ pub fn grow(
         return Err(refusal::GROWN_OVER_16);
     }
     let after = change.apply(components);
-    // Neither the layout nor the choice has an object twice, so only a chosen one that stood there already can be.
+    // Neither the layout nor the choice has an object twice, so only a chosen one that was there already can be.
     if chosen.count > 0 && after.has_object_twice() {
         return Err(refusal::OBJECT_IN_LAYOUT);
     }
@@ -333,7 +333,7 @@ pub fn grow(
     Ok(())
 }
 
-/// The step that a call of `grow` comes to, or none where it is refused by 15 or a lower number. Later numbers may
+/// The step that a call of `grow` comes to, or none if it is refused by 15 or a lower number. Later numbers may
 /// still refuse it.
 pub fn step_due(pages: &[u8], offset: u64, low_mark: u64, table: &[u64]) -> Option<Step> {
     let mut layout = Layout::EMPTY;

@@ -14,7 +14,7 @@ pub fn list(input: &[u8]) -> String {
     }
 }
 
-/// Gathers the layout from pages that each stand after their length. A refusal is a number and a page.
+/// Gathers the layout from pages, each after its length. A refusal is a number and a page.
 fn gather<'a>(layout: &mut Layout<'a>, mut input: &'a [u8]) -> Result<(), (u32, usize)> {
     while !input.is_empty() {
         let page = layout.pages;

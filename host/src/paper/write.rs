@@ -93,7 +93,7 @@ pub fn page(pages: &[u8], number: u64, buffer: &mut [u8], written: &mut u64) -> 
     Ok(())
 }
 
-/// Writes all pages of a layout back to back to the first bytes of `buffer` and gives their length, or gives none where
+/// Writes all pages of a layout back to back to the first bytes of `buffer` and gives their length, or gives none if
 /// the buffer is too short.
 pub fn write_all(components: &[Component], generation: u32, buffer: &mut [u8]) -> Option<usize> {
     let length = PagesOut::of(components).map(|page| page.length).sum();

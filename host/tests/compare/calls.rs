@@ -257,7 +257,7 @@ impl Comparison {
         self.differences.len()
     }
 
-    /// Prints the counts, checks that every number occurred that a call can give, and fails where anything differed.
+    /// Prints the counts, checks that every number occurred that a call can give, and fails if anything differed.
     pub fn finish(&self) {
         self.print_counts();
         let mut missing = Vec::new();

@@ -9,7 +9,7 @@ pub struct Damage {
     pub name: &'static str,
     /// the refusal of the layout with this damage alone
     pub refusal: u32,
-    /// false where the layout has no place for it; then nothing is changed
+    /// false if the layout has no place for it; then nothing is changed
     pub apply: fn(&mut Random, &mut Layout) -> bool,
 }
 

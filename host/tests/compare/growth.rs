@@ -22,7 +22,7 @@ pub fn compare_run(random: &mut Random, comparison: &mut Comparison) {
     }
 }
 
-/// One growth call on a valid layout. Gives the new pages where it is accepted.
+/// One growth call on a valid layout. Gives the new pages if it is accepted.
 pub fn compare_call(
     random: &mut Random,
     comparison: &mut Comparison,

@@ -267,7 +267,7 @@ pub fn paging(random: &mut Random, layout: &Layout) -> Vec<Page> {
     layout.pages_with_breaks(|_| random.chance(breaks))
 }
 
-/// Makes a component init on this many objects, at most 64, which may stand in the layout already.
+/// Makes a component init on this many objects, at most 64, which may be in the layout already.
 pub fn make_init(random: &mut Random, component: &mut Component, stripes: u64) {
     let stripes = stripes.min(64);
     component.flags |= INIT;

@@ -173,9 +173,9 @@ uint32_t moorsickle_back(const uint8_t *pages, size_t pages_len, uint32_t target
                          uint64_t *offset);
 
 /* Cuts the request for `length` bytes from `offset` into pieces, at every component border and every multiple of the
- * component's stripe size. Writes the number of pieces to `*count`, and the pieces in file order to the first numbers of
- * `room`, five numbers a piece: file offset, length, component id, stripe, object byte. The numbers after them stay. The
- * room is for room_len / 5 pieces, rounded down; no request gets more than MOORSICKLE_MAX_PIECES. Length 0 gives no
+ * component's stripe size. Writes the number of pieces to `*count`, and the pieces in file order to the first numbers
+ * of `room`, five numbers a piece: file offset, length, component id, stripe, object byte. The numbers after them stay.
+ * The room is for room_len / 5 pieces, rounded down; no request gets more than MOORSICKLE_MAX_PIECES. Length 0 gives no
  * pieces, wherever `offset` points.
  * Refusals: 1 to 8 of the pages; 9, 10, 11, 12. */
 uint32_t moorsickle_cut(const uint8_t *pages, size_t pages_len, uint64_t offset, uint64_t length, uint64_t *room,
@@ -191,9 +191,9 @@ uint32_t moorsickle_page(const uint8_t *pages, size_t pages_len, uint64_t number
                          uint64_t *written);
 
 /* Makes one step of growth, for the component that holds the file byte at `offset`.
- * `table` is the free table, three numbers a record as in struct moorsickle_target, targets strictly rising; `table_len`
- * is counted in numbers. A target is low if its free bytes are below `low_mark` or it is not in the table. New objects
- * are placed on targets that are not low and whose next number is below 2^64 - 1, the lowest targets first.
+ * `table` is the free table, three numbers a record as in struct moorsickle_target, targets strictly rising;
+ * `table_len` is counted in numbers. A target is low if its free bytes are below `low_mark` or it is not in the table.
+ * New objects are placed on targets that are not low and whose next number is below 2^64 - 1, the lowest targets first.
  * Writes the pages of the layout after the step to the first bytes of `grown`, back to back and cut by the writer's
  * rule; and to `answer` their length, and 1 if the file byte has a home now, else 0. In the table, the next number of
  * each target that got a new object goes up by 1. Nothing else in `grown` and in the table changes. No layout needs

@@ -1,4 +1,4 @@
--- The laws of flag words: what stands in the word that is written, and that a word that may be read is written again.
+-- The laws of flag words: what is in the word that is written, and that a word that may be read is written again.
 use Prim.Native.Nat.{ℕ, zero, suc, _^_, _<_}
 use mathlib.Core.Path.{_≡_, refl}
 use mathlib.Core.Bool.{Bool, true, false}
@@ -6,29 +6,23 @@ use native.Mathlib.Omega.{arith}
 use borrow.Author.Tests.{ltb-true}
 use Rattle.bytes_le.specs.Flags.{isSet, onlyFirst, flagWord}
 
--- Bit 0 of the flag word is the first flag.
+-- Bit 0 of the flag word is the first flag, bit 1 the second, and no other bit is set.
+word-says : (a b : Bool)
+    → (isSet 0 (flagWord a b) ≡ a) × (isSet 1 (flagWord a b) ≡ b) × (onlyFirst 2 (flagWord a b) ≡ true)
+unfolding isSet onlyFirst flagWord
+word-says true true = (refl, refl, refl)
+word-says true false = (refl, refl, refl)
+word-says false true = (refl, refl, refl)
+word-says false false = (refl, refl, refl)
+
 pub first-word : (a b : Bool) → isSet 0 (flagWord a b) ≡ a
-unfolding isSet flagWord
-first-word true true = refl
-first-word true false = refl
-first-word false true = refl
-first-word false false = refl
+first-word a b = word-says a b .0
 
--- Bit 1 of the flag word is the second flag.
 pub second-word : (a b : Bool) → isSet 1 (flagWord a b) ≡ b
-unfolding isSet flagWord
-second-word true true = refl
-second-word true false = refl
-second-word false true = refl
-second-word false false = refl
+second-word a b = word-says a b .1
 
--- The flag word has no bit set but bits 0 and 1.
 pub word-only : (a b : Bool) → onlyFirst 2 (flagWord a b) ≡ true
-unfolding onlyFirst flagWord
-word-only true true = refl
-word-only true false = refl
-word-only false true = refl
-word-only false false = refl
+word-only a b = word-says a b .2
 
 -- The flag word without the second flag has no bit set but bit 0.
 pub word-first : (a : Bool) → onlyFirst 1 (flagWord a false) ≡ true

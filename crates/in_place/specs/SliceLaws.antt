@@ -1,12 +1,12 @@
 -- The components at places, by the places: what a loop over the places asks for.
 use Prim.Native.Nat.{ℕ, _+_, _-_, _≤_, _<_, min}
 use mathlib.Core.Path.{_≡_, ap, _∙_}
-use mathlib.Core.List.{List, [], _∷_, _++_}
+use mathlib.Core.List.{List, [], _∷_, _++_, map-append}
 use native.Mathlib.Omega.{arith}
 use lib.ListN.{length, getD, take, length-map, length-append}
 use lib.Seq.{slice, length-take-le}
 use Rattle.lists.specs.Tests.{after-append}
-use Rattle.lists.specs.Slices.{slice-next, slice-done, take-next, map-append}
+use Rattle.lists.specs.Slices.{slice-next, slice-done, take-next}
 use Rattle.layout.specs.Records.{neighbourOf, neighboursOf, recordsOf, recordsIn}
 use Rattle.page.specs.Form.{recordsAt}
 use Rattle.page.specs.Content.{componentAt}

@@ -2,23 +2,17 @@
 -- not matter.
 use Prim.Native.Nat.{ℕ, zero, suc, _+_, _-_, _<_}
 use mathlib.Core.Path.{_≡_, refl, ap, _∙_}
-use mathlib.Core.List.{List, [], _∷_}
+use mathlib.Core.List.{List, [], _∷_, map-append}
 use native.Mathlib.Omega.{arith}
 use lib.ListN.{length, getD, take, length-take}
 use lib.Seq.{slice, getD-take}
 use Rattle.lists.specs.Tests.{after-append}
-use Rattle.lists.specs.Slices.{slice-next, take-next, map-append}
+use Rattle.lists.specs.Slices.{slice-next, take-next, any-default}
 use Rattle.layout.specs.declared.Component.{Component}
 use Rattle.layout.specs.declared.Layout.{Layout}
 use Rattle.layout.specs.Records.{noComponent, view}
 use Rattle.layout.specs.Holder.{lastEnd}
 use Rattle.layout.specs.Facts.{Kind, Fields, Valid}
-
--- An element of a list is the same whatever is said to stand past the list's end.
-any-default : {A : Type 0} (l : List A) (i : ℕ) (d e : A) → i < length l → getD l i d ≡ getD l i e
-any-default [] i d e h = absurd (omega arith)
-any-default (a ∷ l) zero d e h = refl
-any-default (a ∷ l) (suc i) d e h = any-default l i d e (omega arith)
 
 -- Each component of a list that keeps the rule of the fields is of one of the three kinds.
 pub kind-at : (cs : List Component) → Fields cs → (d : Component) (i : ℕ) → i < length cs → Kind (getD cs i d)

@@ -1,11 +1,11 @@
 -- The keys of object records: where they differ, the records do.
-use Prim.Native.Nat.{ℕ, zero, suc, _≤_, _<_}
-use mathlib.Core.Path.{_≡_, refl, sym, ap, _∙_}
+use Prim.Native.Nat.{ℕ, _≤_, _<_}
+use mathlib.Core.Path.{_≡_, sym, ap, _∙_}
 use mathlib.Core.List.{List, [], _∷_}
 use mathlib.Core.Bool.{true, false, cond, false≢true}
 use native.Mathlib.Omega.{arith}
 use lib.Dec.{eqb}
-use lib.ListN.{length, getD, take, length-take}
+use lib.ListN.{length, getD, take, List·getD-map}
 use lib.Seq.{slice, take-take, getD-take}
 use borrow.Author.Tests.{eq-eqb}
 use Rattle.lists.specs.Bools.{bool-cases, clash}
@@ -28,10 +28,9 @@ key-alike o (p ∷ os) e =
     (λ l. rw l (key-alike o os (rw s at e))))
 
 -- The key at a place.
-getD-keys : (os : List Object) (i : ℕ) → i < length os → getD (keysOf os) i 0 ≡ keyOf (getD os i noObject)
-getD-keys [] i h = absurd (omega arith)
-getD-keys (o ∷ os) zero h = refl
-getD-keys (o ∷ os) (suc i) h = getD-keys os i (omega arith)
+getD-keys : (os : List Object) (i : ℕ) → getD (keysOf os) i 0 ≡ keyOf (getD os i noObject)
+unfolding keyOf
+getD-keys os i = List·getD-map keyOf os i noObject
 
 -- A list of at least n object records, and a row with the keys of the first n. Where the record at place i is asked of those from
 -- `start` on, it is asked of all before it.
@@ -44,7 +43,7 @@ module _ (os : List Object) (keys : List ℕ) (n i : ℕ) (h : i < n) (k : n ≤
   key-at : getD keys i 0 ≡ keyOf (getD os i noObject)
   key-at =
       sym (getD-take n keys i 0 h) ∙ ap (λ (l : List ℕ). getD l i 0) e
-      ∙ getD-keys (take n os) i (omega (arith, length-take n os))
+      ∙ getD-keys (take n os) i
       ∙ ap keyOf (getD-take n os i noObject h)
 
   pub row-known : (o : Object) → getD os i noObject ≡ o → (start : ℕ)

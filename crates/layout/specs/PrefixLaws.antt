@@ -2,7 +2,7 @@
 -- the rules with pages outstanding, which tests of the whole list are known to pass.
 use Prim.Native.Nat.{ℕ, zero, suc, _-_}
 use mathlib.Core.Path.{_≡_, refl, sym, ap, _∙_}
-use mathlib.Core.List.{List, [], _∷_, _++_, append-assoc}
+use mathlib.Core.List.{List, [], _∷_, _++_, append-assoc, map-append}
 use mathlib.Core.Bool.{Bool, true, false, not}
 use native.Mathlib.Omega.{arith}
 use lib.Dec.{eqb}
@@ -11,7 +11,7 @@ use lib.Seq.{take-append-add}
 use Rattle.lists.specs.Bools.{clash, both-true}
 use Rattle.lists.specs.Tests.{every, every-take, take-along, take-each, conjunction-at}
 use Rattle.lists.specs.Counting.{unseen, seenWith, count-append}
-use Rattle.lists.specs.Slices.{map-append, take-map}
+use Rattle.lists.specs.Slices.{take-map}
 use Rattle.layout.specs.declared.Component.{Component}
 use Rattle.layout.specs.declared.Neighbour.{Neighbour}
 use Rattle.layout.specs.Records.{neighbourOf, neighboursOf, idOf, idsOf, recordsOf, recordsIn}

@@ -16,9 +16,9 @@ use Rattle.layout.specs.declared.Outline.{Outline}
 abbrev pub noObject : Object
 noObject = record { target = 0; number = 0 }
 
--- What stands in the unused places of a component array.
-abbrev pub noComponent : Component
-noComponent =
+-- A blank component, with these in its object array.
+abbrev pub blankWith : List Object → Component
+blankWith os =
     record {
       init = false;
       extension = false;
@@ -29,8 +29,12 @@ noComponent =
       begin = 0;
       end = 0;
       «extension_size» = 0;
-      objects = replicate 16 noObject;
+      objects = os;
     }
+
+-- What is in the unused places of a component array.
+abbrev pub noComponent : Component
+noComponent = blankWith (replicate 16 noObject)
 
 -- A component as the neighbour rules see it: its extent and its flags.
 abbrev pub neighbourOf : Component → Neighbour

@@ -49,7 +49,8 @@ pub struct Layout {
     pub components: [Component; 16],
 }
 
-const NO_OBJECT: Object = Object {
+// What is in the unused places of an object array.
+pub const NO_OBJECT: Object = Object {
     target: 0,
     number: 0,
 };

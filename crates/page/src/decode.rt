@@ -1,6 +1,7 @@
 // What stands at a place of a page.
 use crate::Head;
 use layout::Component;
+use layout::NO_OBJECT;
 use layout::Object;
 ghost use mathlib.Core.Path.{_≡_};
 ghost use Prim.Native.Nat.{_+_, _*_, _≤_, min};
@@ -8,11 +9,6 @@ ghost use lib.ListN.{length};
 ghost use Rattle.layout.specs.Records.{packObjects};
 ghost use Rattle.page.specs.Form.{behind};
 ghost use Rattle.page.specs.Content.{objectAt, objectsAt, componentAt, headOf};
-
-const NO_OBJECT: Object = Object {
-    target: 0,
-    number: 0,
-};
 
 // The object record at the place.
 pub fn object_at(s: &[u8], at: usize) -> Object

@@ -1,12 +1,12 @@
 -- The laws of components at places as cutting sees them.
 use Prim.Native.Nat.{ℕ, _+_, _-_, _≤_, _<_}
 use mathlib.Core.Path.{_≡_, ap, _∙_}
-use mathlib.Core.List.{List, [], _∷_}
+use mathlib.Core.List.{List, [], _∷_, map-append}
 use native.Mathlib.Omega.{arith}
 use lib.ListN.{length, getD, take}
 use lib.Seq.{slice}
 use Rattle.lists.specs.Tests.{after-append}
-use Rattle.lists.specs.Slices.{take-next, map-append}
+use Rattle.lists.specs.Slices.{take-next}
 use Rattle.layout.specs.Holder.{lastEnd}
 use Rattle.page.specs.Content.{componentAt}
 use Rattle.in_place.specs.Places.{componentsAt, ValidAt}

@@ -1,12 +1,12 @@
 -- Blanking the unused places of a layout's arrays changes no rule: places past a count mean nothing.
 use mathlib.Core.Path.{_≡_, refl, ap, _∙_}
-use mathlib.Core.List.{List, [], _∷_, map}
+use mathlib.Core.List.{List, [], _∷_, map, map-map}
 use mathlib.Core.Bool.{Bool, true, false}
 use native.Mathlib.Omega.{arith}
 use lib.ListN.{length, length-map}
 use Rattle.layout.specs.declared.Component.{Component}
 use Rattle.layout.specs.declared.Layout.{Layout}
-use Rattle.layout.specs.Records.{neighboursOf, idsOf, recordsOf, recordsIn, view, packed}
+use Rattle.layout.specs.Records.{neighbourOf, neighboursOf, idOf, idsOf, recordsOf, recordsIn, view, packed}
 use Rattle.layout.specs.RecordLaws.{view-pack}
 use Rattle.layout.specs.Fields.{fieldsOk, fieldTests}
 use Rattle.layout.specs.Distinct.{distinctHold}
@@ -32,13 +32,11 @@ field-tests-same (c ∷ cs) f = rw (fields-same c (records-same (f .1)), field-t
 
 -- nor does a test of neighbours,
 neighbours-same : (cs : List Component) → neighboursOf (map trimmed cs) ≡ neighboursOf cs
-neighbours-same [] = refl
-neighbours-same (c ∷ cs) = rw (neighbours-same cs)
+neighbours-same cs = map-map neighbourOf trimmed cs
 
 -- nor one of ids,
 ids-same : (cs : List Component) → idsOf (map trimmed cs) ≡ idsOf cs
-ids-same [] = refl
-ids-same (c ∷ cs) = rw (ids-same cs)
+ids-same cs = map-map idOf trimmed cs
 
 -- nor one of object records.
 records-in-same : (cs : List Component) → Fields cs → recordsIn (map trimmed cs) ≡ recordsIn cs

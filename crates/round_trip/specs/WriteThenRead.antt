@@ -3,13 +3,12 @@
 -- written are those of one layout in their order, with its components, so the reader takes them as it takes any paging.
 use Prim.Native.Nat.{ℕ, zero, suc, _+_, _≤_, _<_}
 use mathlib.Core.Path.{_≡_, refl, sym, ap, _∙_}
-use mathlib.Core.List.{List, [], _∷_, _++_, map}
+use mathlib.Core.List.{List, [], _∷_, _++_, map, map-append}
 use mathlib.Core.Bool.{true, false}
 use native.Mathlib.Omega.{arith}
 use lib.ListN.{length, take, drop, length-drop, length-map}
 use borrow.Author.Tests.{ltb-true, le-ltb, lt-ltb}
 use Rattle.lists.specs.Bools.{bool-cases}
-use Rattle.lists.specs.Slices.{map-append}
 use Rattle.layout.specs.declared.Component.{Component}
 use Rattle.layout.specs.declared.Layout.{Layout}
 use Rattle.layout.specs.Records.{view}

@@ -15,14 +15,15 @@ use borrow.Author.Needs.{needs}
 use Rattle.layout.proofs.distinct.objects_differ.Statement.{statement}
 use Rattle.layout.proofs.distinct.objects_differ.Tie as tie
 
--- The rows hold the object records of the layout.
-rows : (c : tie.After-numbers5) → take (c .before .before .before .before .put-all2 .result)
-    (named (c .before .before .before .before .put-all2 .last .1 .1 .1 .1 .0) (c .before .before .before .before .put-all2 .last .1 .1 .1 .1 .1 .0))
-    ≡ recordsIn (view (c .before .before .before .before .before .before .before .before .before .before .before .before .args .l))
-rows c =
-    let two = c .before .before .before .before .put-all2 in
-    let one = c .before .before .before .before .before .before .before .before .before .put-all in
-    let s = c .before .before .before .before .before .before .before .before .before .before .before .before in
+-- The rows hold the object records of the layout. `two` and `one` are the states after the second and the first store.
+rows : (two : tie.After-put-all2) → (let one = two .before .before .before .before .before in
+    take (two .put-all2 .result) (named (two .put-all2 .last .1 .1 .1 .1 .0) (two .put-all2 .last .1 .1 .1 .1 .1 .0))
+    ≡ recordsIn (view (one .before .before .before .args .l)))
+rows second =
+    let first = second .before .before .before .before .before in
+    let s = first .before .before .before in
+    let two = second .put-all2 in
+    let one = first .put-all in
     let l = s .args .l in
     gathered (l .components) (s .args .from) (l .count) (one .result) (two .result) (s .pre .0) (one .ensures .0) (two .ensures .0)
     (replicate 256 0) (replicate 256 0) (one .last .1 .1 .1 .1 .0) (one .last .1 .1 .1 .1 .1 .0) (two .last .1 .1 .1 .1 .0) (two .last .1 .1 .1 .1 .1 .0)
@@ -31,27 +32,31 @@ rows c =
 
 object-repeat-requires : tie.Need-object-repeat-requires
 object-repeat-requires c κs =
-    let two = c .before .before .before .before .before .put-all2 in
-    let one = c .before .before .before .before .before .before .before .before .before .before .put-all in
-    let s = c .before .before .before .before .before .before .before .before .before .before .before .before .before in
+    let second = c .before .before .before .before .before in
+    let first = second .before .before .before .before .before in
+    let s = first .before .before .before in
+    let two = second .put-all2 in
+    let one = first .put-all in
     let l = s .args .l in
     let e = take-take (s .args .from) (l .count) (l .components) (s .pre .0) in
     let k : one .result ≡ length (recordsIn (take (s .args .from) (l .components))) = omega (arith, one .ensures .0) in (
       omega arith,
       omega arith,
       omega (arith, one .ensures .0, two .ensures .0),
-      rw (rows (c .before), k) (rw e at (s .pre .2)),
+      rw (rows second, k) (rw e at (s .pre .2)),
       omega arith,
     )
 
 returns : tie.Need-returns
 returns c =
-    let two = c .before .before .before .before .before .before .before .put-all2 in
-    let one = c .before .before .before .before .before .before .before .before .before .before .before .before .put-all in
-    let s = c .before .before .before .before .before .before .before .before .before .before .before .before .before .before .before in
+    let second = c .before .before .before .before .before .before .before in
+    let first = second .before .before .before .before .before in
+    let s = first .before .before .before in
+    let two = second .put-all2 in
+    let one = first .put-all in
     let l = s .args .l in
     let r = c .before .object-repeat .ensures
-    ∙ ap (λ (os : List Object). firstFailed (fresh sameObject os)) (rows (c .before .before .before)) in
+    ∙ ap (λ (os : List Object). firstFailed (fresh sameObject os)) (rows second) in
     let n = gathered-length (l .components) (s .args .from) (l .count) (one .result) (two .result) (s .pre .0) (one .ensures .0) (two .ensures .0)
     ∙ sym (length-along (unseen sameObject) seenWith _ (recordsIn (view l))) in
     failed-every (objectTests (view l)) (c .before .object-repeat .result) (two .result) r (sym n)

@@ -25,16 +25,19 @@ Inv-loop first end at targets₀ numbers₀ l p₀ i₀ targets numbers p i =
 abbrev μ-loop : tie.MeasureT-loop
 μ-loop first end at targets₀ numbers₀ l p₀ i₀ targets numbers p i = end - i
 
+-- `stored` is the state after the records of the turn's component were stored, `turn` that at the turn's start.
 loop-again : tie.Need-loop-again Inv-loop μ-loop
 loop-again c =
-    let q = c .before .before .before .before .put-records in
-    let p = c .before .before .before .before .before .before .before .before .before in
+    let stored = c .before .before .before .before in
+    let turn = stored .before .before .before .before in
+    let q = stored .put-records in
+    let p = turn .before in
     let s = p .before .before .before in
     let l = s .args .t1 .components in
     let h : length l ≡ 16 = unmapped l _ (s .good .0 .1 .1 .1 .1 .0 .1 .0 .1) in
     let x = getD l (p .loop .i) unread in
     let rest = recordsIn (slice (p .loop .i + 1) (s .args .end) l) in
-    let e = slice-next l (s .args .end) (p .loop .i) unread (c .before .before .before .before .before .before .before .before .loop-test .taken) (omega arith) in (
+    let e = slice-next l (s .args .end) (p .loop .i) unread (turn .loop-test .taken) (omega arith) in (
       omega arith,
       omega (arith, q .ensures .1),
       q .kept .1 .1 .0 ∙ p .loop .inv .2,

@@ -7,12 +7,13 @@ use Rattle.layout.proofs.fields.fields_ok.Tie as tie
 returns : tie.Need-returns
 unfolding fieldsOk
 returns c =
-    let n = c .before .before .before .before .before .before .before .before .record-count in
+    let kind = c .before .before .before .before .before .before in
+    let n = kind .before .before .record-count in
     rw (
       c .has-count .ensures,
       c .before .targets-ok .ensures,
       c .before .before .first-target-ok .ensures,
-      c .before .before .before .before .before .before .kind-ok .ensures,
+      kind .kind-ok .ensures,
       n .ensures .3,
       n .ensures .2,
     )

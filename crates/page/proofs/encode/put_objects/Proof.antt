@@ -8,7 +8,7 @@ use lib.Seq.{sets, slice}
 use Rattle.lists.specs.Slices.{slice-next, slice-done}
 use Rattle.layout.specs.Records.{noObject}
 use Rattle.page.specs.Bytes.{objectsBytes}
-use Rattle.page.proofs.Stores.{object-stored}
+use Rattle.page.proofs.Stores.{object-turn}
 use borrow.Author.Needs.{needs}
 use Rattle.page.proofs.encode.put_objects.Statement.{statement}
 use Rattle.page.proofs.encode.put_objects.Tie as tie
@@ -38,7 +38,7 @@ loop-again c =
       omega arith,
       put .put-object .kept .0 ∙ p .loop .inv .1,
       p .loop .inv .2
-          ∙ rw next (object-stored (p .loop .buffer) (put .put-object .last .0) (a .at) i _ o (slice (i + 1) (a .n) (a .t4))
+          ∙ rw next (object-turn (p .loop .buffer) (put .put-object .last .0) (a .at) i _ o (slice (i + 1) (a .n) (a .t4))
           (put .put-object .ensures) (omega arith)),
     )
 

@@ -88,21 +88,21 @@ module _ (n : ℕ) (s : List ℕ) where
       rw (head-form-take (omega arith), counted-take (omega arith), components-form-take (counted s) limit 16 h))
       (λ e. rw e)
 
-  -- The places of k components that end by the n bytes.
-  pub places-take : (k at : ℕ) → componentsForm k n s at ≡ true → placesFrom k (take n s) at ≡ placesFrom k s at
-  places-take zero at e = refl
-  places-take (suc k) at e =
+  -- The places of k components that end by the n bytes, and where they end.
+  walk-take : (k at : ℕ) → componentsForm k n s at ≡ true
+      → (placesFrom k (take n s) at ≡ placesFrom k s at) × (endFrom k (take n s) at ≡ endFrom k s at)
+  walk-take zero at e = (refl, refl)
+  walk-take (suc k) at e =
       let p = components-parts k n s at e in
       let w = component-within n s at (p .0) in
-      rw (behind-take at (omega arith), places-take k (behind s at) (p .1))
+      let rest = walk-take k (behind s at) (p .1) in
+      rw (behind-take at (omega arith)) (rw (rest .0), rest .1)
 
-  -- Where k components end that end by the n bytes.
+  pub places-take : (k at : ℕ) → componentsForm k n s at ≡ true → placesFrom k (take n s) at ≡ placesFrom k s at
+  places-take k at e = walk-take k at e .0
+
   pub end-take : (k at : ℕ) → componentsForm k n s at ≡ true → endFrom k (take n s) at ≡ endFrom k s at
-  end-take zero at e = refl
-  end-take (suc k) at e =
-      let p = components-parts k n s at e in
-      let w = component-within n s at (p .0) in
-      rw (behind-take at (omega arith), end-take k (behind s at) (p .1))
+  end-take k at e = walk-take k at e .1
 
   -- An object record.
   pub object-take : (at : ℕ) → at + 16 ≤ n → objectAt (take n s) at ≡ objectAt s at

@@ -29,7 +29,7 @@ use Rattle.page.specs.Form.{componentsForm, placesFrom, endFrom, headFor
 use Rattle.page.specs.Content.{objectAt, objectsAt, componentAt, headOf, componentsOf}
 use Rattle.page.specs.Bytes.{objectBytes, objectsBytes, words, longs, fieldBytes, componentBytes, sizeOf}
 use Rattle.page.specs.Bytes.{componentsBytes, headBytes, pageBytes}
-use Rattle.page.specs.Same.{trimmed, Fits, AllFit, FitsHead, Few}
+use Rattle.page.specs.Same.{trimmed, NumbersFit, Fits, AllFit, FitsHead, Few}
 use Rattle.page.specs.BytesLaws.{total}
 use Rattle.page.specs.FormLaws.{length-components, form-room, form-head, form-components, some-components}
 use Rattle.page.specs.FormLaws.{page-by, page-ends}
@@ -111,20 +111,12 @@ length-objects-at : (n : ℕ) (s : List ℕ) (at : ℕ) → length (objectsAt n 
 length-objects-at zero s at = refl
 length-objects-at (suc n) s at = ap suc (length-objects-at n s (at + 16))
 
--- Their numbers fit the fields that they were read from.
-targets-below : (n : ℕ) (s : List ℕ) (at : ℕ) → AreBytes s → (i : ℕ)
-    → getD (objectsAt n s at) i noObject .target < 2 ^ 32
-unfolding objectAt
-targets-below zero s at b i = omega arith
-targets-below (suc n) s at b zero = u32-below s (at + 4) b
-targets-below (suc n) s at b (suc i) = targets-below n s (at + 16) b i
-
-numbers-below : (n : ℕ) (s : List ℕ) (at : ℕ) → AreBytes s → (i : ℕ)
-    → getD (objectsAt n s at) i noObject .number < 2 ^ 64
-unfolding objectAt
-numbers-below zero s at b i = omega arith
-numbers-below (suc n) s at b zero = u64-below s (at + 8) b
-numbers-below (suc n) s at b (suc i) = numbers-below n s (at + 16) b i
+-- A number that is below m in each object record of the bytes, and in a blank one, is below m in each of these.
+each-below : (number : Object → ℕ) (m : ℕ) (s : List ℕ) → number noObject < m → ((at : ℕ) → number (objectAt s at) < m)
+    → (n at i : ℕ) → number (getD (objectsAt n s at) i noObject) < m
+each-below number m s z h zero at i = z
+each-below number m s z h (suc n) at zero = h at
+each-below number m s z h (suc n) at (suc i) = each-below number m s z h n (at + 16) i
 
 -- The component at a place, where it is to have at most 16 object records.
 module _ (s : List ℕ) (at : ℕ) (few : recordCount (componentAt s at) ≤ 16) where
@@ -172,9 +164,9 @@ module _ (s : List ℕ) (at : ℕ) (few : recordCount (componentAt s at) ≤ 16)
         fields-again s b at (omega arith) (q .1) ∙ rw (os, read-records, append-assoc)
 
     -- Its numbers fit their fields in a page.
-    pub read-fits : Fits (componentAt s at)
-    unfolding componentAt recordsAt i32Of
-    read-fits =
+    read-numbers : NumbersFit (componentAt s at)
+    unfolding componentAt objectAt recordsAt i32Of
+    read-numbers =
         let n = recordsAt s at in
         record {
           id = u16-below s (at + 4) b;
@@ -184,11 +176,15 @@ module _ (s : List ℕ) (at : ℕ) (few : recordCount (componentAt s at) ≤ 16)
           begin = u64-below s (at + 16) b;
           end = u64-below s (at + 24) b;
           extension = u64-below s (at + 32) b;
-          targets = λ i h. rw read-records (targets-below n s (at + 40) b i);
-          numbers = λ i h. rw read-records (numbers-below n s (at + 40) b i);
-          whole = read-whole;
-          few = few;
+          targets = λ i h. rw read-records
+              (each-below (λ (o : Object). o .target) (2 ^ 32) s (omega arith) (λ k. u32-below s (k + 4) b) n (at + 40) i);
+          numbers = λ i h. rw read-records
+              (each-below (λ (o : Object). o .number) (2 ^ 64) s (omega arith) (λ k. u64-below s (k + 8) b) n (at + 40) i);
         }
+
+    pub read-fits : Fits (componentAt s at)
+    unfolding componentAt recordsAt
+    read-fits = record { fit = read-numbers; whole = read-whole; few = few }
 
 -- The n components from a place on.
 abbrev pub componentsAt : ℕ → List ℕ → ℕ → List Component

@@ -37,9 +37,10 @@ pub trimmed-records : (c : Component) → length (recordsOf c) ≡ recordCount c
 trimmed-records c e h =
     ap (λ (n : ℕ). take n (packObjects (recordsOf c))) (sym e) ∙ records-pack (recordsOf c) (omega arith)
 
--- The numbers of a component fit their fields in a page, as those of every component in memory do, and its array has as
--- many object records as it is to have, at most 16, as every component has that keeps refusal 6's rule.
-pub record Fits (c : Component) : Type 0 where
+-- The numbers of a component fit their types, in memory and in a page: u16 for the id and the stripe count, u32 for the
+-- stripe size, i32 for the first target, u64 for begin, end and extension size; and of each object record, u32 for the
+-- target and u64 for the object number.
+pub record NumbersFit (c : Component) : Type 0 where
   pub id : c .id < 2 ^ 16
   pub count : c .«stripe_count» < 2 ^ 16
   pub size : c .«stripe_size» < 2 ^ 32
@@ -49,6 +50,11 @@ pub record Fits (c : Component) : Type 0 where
   pub extension : c .«extension_size» < 2 ^ 64
   pub targets : (i : ℕ) → i < length (recordsOf c) → getD (recordsOf c) i noObject .target < 2 ^ 32
   pub numbers : (i : ℕ) → i < length (recordsOf c) → getD (recordsOf c) i noObject .number < 2 ^ 64
+
+-- A component that a page can hold: its numbers fit, and its array has as many object records as it is to have, at most
+-- 16, as every component has that keeps refusal 6's rule.
+pub record Fits (c : Component) : Type 0 where
+  pub fit : NumbersFit c
   pub whole : length (recordsOf c) ≡ recordCount c
   pub few : recordCount c ≤ 16
 

@@ -23,7 +23,7 @@ use Rattle.page.specs.Form.{componentsForm, placesFrom, endFrom, headFor
 use Rattle.page.specs.Content.{objectAt, objectsAt, componentAt, headOf, componentsOf}
 use Rattle.page.specs.Bytes.{objectBytes, objectsBytes, words, longs, fieldBytes, componentBytes, sizeOf}
 use Rattle.page.specs.Bytes.{componentsBytes, headBytes, pageBytes}
-use Rattle.page.specs.Same.{trimmed, Fits, AllFit, FitsHead}
+use Rattle.page.specs.Same.{trimmed, NumbersFit, Fits, AllFit, FitsHead}
 use Rattle.page.specs.BytesLaws.{length-object, length-fields, length-component, length-head, length-page, total}
 use Rattle.page.specs.PlaceLaws.{objects-from, objects-form-from, records-from, marks-from, behind-form-from}
 use Rattle.page.specs.PlaceLaws.{component-from}
@@ -75,7 +75,7 @@ module _ (c : Component) (t : List ℕ) where
   unfolding u16At fieldBytes words longs u16Bytes u32Bytes u64Bytes
   flags-read = le-enc 1 (flagWord (c .init) (c .extension)) [] (word-below (c .init) (c .extension))
 
-  module _ (f : Fits c) where
+  module _ (f : NumbersFit c) where
     count-read : u16At (fieldBytes c ++ t) 6 ≡ c .«stripe_count»
     unfolding u16At fieldBytes words longs u16Bytes u32Bytes u64Bytes
     count-read = le-enc 1 (c .«stripe_count») [] (f .count)
@@ -100,7 +100,7 @@ module _ (c : Component) (t : List ℕ) (f : Fits c) where
   written = fieldBytes c ++ (objectsBytes (recordsOf c) ++ t)
 
   records-first : recordsAt written 0 ≡ length (recordsOf c)
-  records-first = records-read c (objectsBytes (recordsOf c) ++ t) f ∙ sym (f .whole)
+  records-first = records-read c (objectsBytes (recordsOf c) ++ t) (f .fit) ∙ sym (f .whole)
 
   behind-rest : drop 40 written ≡ objectsBytes (recordsOf c) ++ t
   behind-rest = drop-at (fieldBytes c) (objectsBytes (recordsOf c) ++ t) 40 (length-fields c)
@@ -110,7 +110,7 @@ module _ (c : Component) (t : List ℕ) (f : Fits c) where
       let n = length (recordsOf c) in
       let h : n ≤ 16 = omega (arith, f .whole, f .few) in
       rw (records-first, min-eq-right h, objects-from n written 40, behind-rest)
-      (objects-read (recordsOf c) t (f .targets) (f .numbers))
+      (objects-read (recordsOf c) t (f .fit .targets) (f .fit .numbers))
 
   behind-formed : objectsForm (recordsAt written 0) written 40 ≡ true
   behind-formed =
@@ -124,13 +124,13 @@ module _ (c : Component) (t : List ℕ) (f : Fits c) where
       λ i. record {
         init = (ap (isSet 0) (flags-read c q) ∙ first-word (c .init) (c .extension)) i;
         extension = (ap (isSet 1) (flags-read c q) ∙ second-word (c .init) (c .extension)) i;
-        id = le-enc 1 (c .id) [] (f .id) i;
-        «stripe_count» = count-read c q f i;
-        «stripe_size» = le-enc 2 (c .«stripe_size») [] (f .size) i;
-        «first_target» = first-read c q f i;
-        begin = le-enc 3 (c .begin) [] (f .begin) i;
-        end = le-enc 3 (c .end) [] (f .end) i;
-        «extension_size» = le-enc 3 (c .«extension_size») [] (f .extension) i;
+        id = le-enc 1 (c .id) [] (f .fit .id) i;
+        «stripe_count» = count-read c q (f .fit) i;
+        «stripe_size» = le-enc 2 (c .«stripe_size») [] (f .fit .size) i;
+        «first_target» = first-read c q (f .fit) i;
+        begin = le-enc 3 (c .begin) [] (f .fit .begin) i;
+        end = le-enc 3 (c .end) [] (f .fit .end) i;
+        «extension_size» = le-enc 3 (c .«extension_size») [] (f .fit .extension) i;
         objects = packObjects (behind-read i);
       }
 
@@ -143,7 +143,7 @@ module _ (s : List ℕ) (at : ℕ) (c : Component) (t : List ℕ) (e : drop at s
 
   -- It has as many object records there as it is to have.
   pub written-records : recordsAt s at ≡ recordCount c
-  written-records = rw (records-from s at, begins) (records-read c (objectsBytes (recordsOf c) ++ t) f)
+  written-records = rw (records-from s at, begins) (records-read c (objectsBytes (recordsOf c) ++ t) (f .fit))
 
   -- It has its mark there, and no flags that may not be set.
   pub written-marks : componentMarks s at ≡ true

@@ -1,14 +1,14 @@
 -- The rules of fields and of neighbours, asked of new components behind old ones that keep them, are the rules asked of all.
 use Prim.Native.Nat.{ℕ, _<_}
 use mathlib.Core.Path.{_≡_, refl, sym, ap, _∙_}
-use mathlib.Core.List.{List, [], _∷_, _++_}
+use mathlib.Core.List.{List, [], _∷_, _++_, map-append}
 use mathlib.Core.Bool.{Bool, true, false, not, cond, _&&_, _||_, and-true, and-assoc}
 use native.Mathlib.Omega.{arith}
 use lib.Dec.{eqb}
 use lib.ListN.{length, length-map}
+use borrow.Author.Tests.{eq-eqb, ne-eqb}
 use Rattle.lists.specs.Bools.{bool-cases, both-true}
 use Rattle.lists.specs.Tests.{every, along, ahead, each, after-append}
-use Rattle.lists.specs.Slices.{map-append}
 use Rattle.layout.specs.declared.Component.{Component}
 use Rattle.layout.specs.declared.Neighbour.{Neighbour}
 use Rattle.layout.specs.Records.{neighbourOf, neighboursOf}
@@ -109,26 +109,22 @@ module _ (more : Bool) (old new : List Component) (some : 0 < length new) where
         (new-joined more (neighboursOf old) (neighboursOf new) (old-join (neighboursOf old) (known .1))
         (rw (length-map new neighbourOf) some))
 
-    -- Where the new components break the rule of fields or of neighbours, all of them together break it;
-    pub rule-new : 0 < newRuleBroken more old new → ruleBroken more (old ++ new) ≡ newRuleBroken more old new
+    -- The number is the one that the new components give; if they break no rule of fields or of neighbours, only
+    -- distinctness is left to be asked.
+    rule-is : ruleBroken more (old ++ new)
+        ≡ cond (eqb (newRuleBroken more old new) 0) (cond (distinctHold (old ++ new)) 0 8) (newRuleBroken more old new)
     unfolding ruleBroken newRuleBroken
-    rule-new h =
-        let f = every (fieldTests new) in
-        let j = newJoin more (lastOf noneBefore (neighboursOf old)) (neighboursOf new) in
-        bool-cases f
-        (λ e. bool-cases j
-        (λ g. let z : 0 < 0 = rw (e, g) at h in absurd (omega arith))
+    rule-is =
+        bool-cases (every (fieldTests new))
+        (λ e. bool-cases (newJoin more (lastOf noneBefore (neighboursOf old)) (neighboursOf new))
+        (λ g. rw (fields-new, e, neighbours-new, g))
         (λ g. rw (fields-new, e, neighbours-new, g)))
         (λ e. rw (fields-new, e))
 
-    -- where they do not, only distinctness is left to be asked.
+    pub rule-new : 0 < newRuleBroken more old new → ruleBroken more (old ++ new) ≡ newRuleBroken more old new
+    rule-new h =
+        let n = newRuleBroken more old new in
+        rule-is ∙ rw (ne-eqb n 0 (λ e. omega arith))
+
     pub rule-rest : newRuleBroken more old new ≡ 0 → ruleBroken more (old ++ new) ≡ cond (distinctHold (old ++ new)) 0 8
-    unfolding ruleBroken newRuleBroken
-    rule-rest h =
-        let f = every (fieldTests new) in
-        let j = newJoin more (lastOf noneBefore (neighboursOf old)) (neighboursOf new) in
-        bool-cases f
-        (λ e. bool-cases j
-        (λ g. rw (fields-new, e, neighbours-new, g))
-        (λ g. let z : 7 ≡ 0 = rw (e, g) at h in absurd (omega arith)))
-        (λ e. let z : 6 ≡ 0 = rw e at h in absurd (omega arith))
+    rule-rest h = rule-is ∙ rw (eq-eqb (newRuleBroken more old new) 0 h)

@@ -47,14 +47,17 @@ put-records-requires c κs =
     omega (arith, p .loop .inv .3) in
     (s .pre .1 (p .loop .i) t, omega (arith, p .loop .inv .1, s .pre .2), omega (arith, p .loop .inv .2, s .pre .3))
 
+-- `stored` is the state after the records of the turn's component were stored, `turn` that at the turn's start.
 loop-again : tie.Need-loop-again Inv-loop μ-loop
 loop-again c =
-    let q = c .before .before .before .before .put-records in
-    let p = c .before .before .before .before .before .before .before .before .before in
+    let stored = c .before .before .before .before in
+    let turn = stored .before .before .before .before in
+    let q = stored .put-records in
+    let p = turn .before in
     let s = p .before .before .before .before .before in
     let b = now (s .args .s) in
     let ps = now (s .args .places) in
-    let t = c .before .before .before .before .before .before .before .before .loop-test .taken in
+    let t = turn .loop-test .taken in
     let h : p .loop .i < length ps = omega (arith, p .before .list .given) in
     let e = records-next b ps (s .args .n) (p .loop .i) t h in
     let k = total-next b ps (s .args .n) (p .loop .i) t h in

@@ -6,7 +6,6 @@ use lib.ListN.{length, take}
 use Rattle.layout.specs.declared.Component.{Component}
 use Rattle.layout.specs.declared.Layout.{Layout}
 use Rattle.page.specs.declared.Head.{Head}
-use Rattle.page.specs.declared.Walk.{Walk}
 use Rattle.page.specs.Form.{counted}
 use Rattle.page.specs.Content.{componentAt, headOf, componentsOf}
 use Rattle.page.specs.FormLaws.{length-components}
@@ -23,12 +22,12 @@ pub count-is : (s : List ℕ) (h : Head) → h ≡ headOf s → h .count ≡ len
 count-is s h e = ap (λ (x : Head). x .count) e ∙ head-count s ∙ sym (length-components s)
 
 -- The layout that was built has the page's components behind its own.
-pub next-is : (s : List ℕ) (w : Walk) (h : Head) (l next : Layout) → Walked s w → h ≡ headOf s
-    → next ≡ joined (h .generation) l (map (componentAt s) (take (h .count) (w .places)))
+pub next-is : (s places : List ℕ) (h : Head) (l next : Layout) → Walked s places → h ≡ headOf s
+    → next ≡ joined (h .generation) l (map (componentAt s) (take (h .count) places))
     → next ≡ joined (headOf s .generation) l (componentsOf s)
-next-is s w h l next k e f =
+next-is s places h l next k e f =
     let n : h .count ≡ counted s = ap (λ (x : Head). x .count) e ∙ head-count s in
-    let cs : map (componentAt s) (take (h .count) (w .places)) ≡ componentsOf s =
-    ap (λ (m : ℕ). map (componentAt s) (take m (w .places))) n ∙ k .components in
+    let cs : map (componentAt s) (take (h .count) places) ≡ componentsOf s =
+    ap (λ (m : ℕ). map (componentAt s) (take m places)) n ∙ k .components in
     f ∙ ap (λ (x : List Component). joined (h .generation) l x) cs
     ∙ ap (λ (x : Head). joined (x .generation) l (componentsOf s)) e

@@ -1,5 +1,5 @@
--- How the next page is cut from the bytes behind a position.
-use Prim.Native.Nat.{ℕ, _+_, _-_, _≤_, _<_, min}
+-- How the next page is cut from the bytes after a position.
+use Prim.Native.Nat.{ℕ, _+_, _≤_, _<_, min}
 use mathlib.Core.Path.{_≡_, sym, ap, ap₂, _∙_}
 use mathlib.Core.List.{List}
 use mathlib.Core.Bool.{Bool, true, false, _&&_}
@@ -7,7 +7,7 @@ use native.Mathlib.Omega.{arith}
 use native.Mathlib.Nat.{add-zero}
 use lib.Dec.{eqb, leb}
 use lib.ListN.{length, take, drop, length-drop}
-use lib.Seq.{take-all, drop-drop}
+use lib.Seq.{drop-drop}
 use borrow.Author.Tests.{eq-eqb, ne-eqb, le-leb, lt-leb, leb-true, leb-false}
 use Rattle.lists.specs.Bools.{bool-cases}
 use Rattle.bytes_le.specs.Numbers.{u16At}
@@ -23,11 +23,16 @@ use Rattle.collector.specs.RunLaws.{Held, readFrom, read-broken, read-re
 use Rattle.collector.specs.Runs.{ended, broken, next, refusedAt, listedCut, hostCut}
 
 -- No bytes are left.
-pub listed-ended : (s : List ℕ) → length s ≡ 0 → listedCut s ≡ ended
-unfolding listedCut
-listed-ended s e = rw (eq-eqb (length s) 0 e)
+module _ (s : List ℕ) (none : length s ≡ 0) where
+  pub listed-ended : listedCut s ≡ ended
+  unfolding listedCut
+  listed-ended = rw (eq-eqb (length s) 0 none)
 
--- Bytes stand behind the position.
+  pub host-ended : hostCut s ≡ ended
+  unfolding hostCut
+  host-ended = rw (eq-eqb (length s) 0 none)
+
+-- Some bytes are left.
 module _ (s : List ℕ) (some : 0 < length s) where
   more : eqb (length s) 0 ≡ false
   more = ne-eqb (length s) 0 (λ e. omega arith)
@@ -55,38 +60,33 @@ module _ (s : List ℕ) (some : 0 < length s) where
       unfolding listedCut
       listed-next l = rw (more, le-leb 2 (length s) h, le-leb (u16At s 0) 512 k, le-leb (2 + u16At s 0) (length s) l)
 
--- The length before a page that stands behind a position.
-pub length-at : (s : List ℕ) (at : ℕ) → u16At (drop at s) 0 ≡ u16At s at
-length-at s at = u16-drop at s 0 ∙ ap (u16At s) (add-zero at)
-
--- The page and the rest behind a position.
-pub listed-next-at : (s : List ℕ) (at : ℕ) → at + 2 ≤ length s → u16At s at ≤ 512 → at + 2 + u16At s at ≤ length s
-    → listedCut (drop at s) ≡ next (take (u16At s at) (drop (at + 2) s)) (drop (at + 2 + u16At s at) s)
-listed-next-at s at h k l =
-    let n = length-at s at in
-    let len = length-drop at s in
-    let e : at + (2 + u16At s at) ≡ at + 2 + u16At s at = omega arith in
-    listed-next (drop at s) (omega arith) (omega arith) (omega arith) (omega arith)
-    ∙ rw (n, drop-drop 2 at s, drop-drop (2 + u16At s at) at s, e)
-
--- No bytes are left.
-pub host-ended : (s : List ℕ) → length s ≡ 0 → hostCut s ≡ ended
-unfolding hostCut
-host-ended s e = rw (eq-eqb (length s) 0 e)
-
--- Bytes stand behind the position.
-module _ (s : List ℕ) (some : 0 < length s) where
   -- The page that they begin with is whole.
   pub host-next : pageEnd s ≤ length s → hostCut s ≡ next (take (pageEnd s) s) (drop (pageEnd s) s)
   unfolding hostCut
-  host-next h = rw (more s some, le-leb (pageEnd s) (length s) h)
+  host-next h = rw (more, le-leb (pageEnd s) (length s) h)
 
   -- The page that they begin with is cut.
   pub host-cut : length s < pageEnd s → hostCut s ≡ broken
   unfolding hostCut
-  host-cut h = rw (more s some, lt-leb (pageEnd s) (length s) h)
+  host-cut h = rw (more, lt-leb (pageEnd s) (length s) h)
 
-  -- Where the bytes do not begin with a page of good form, the reading ends with 3.
+-- The length before a page, at a position.
+pub length-at : (s : List ℕ) (at : ℕ) → u16At (drop at s) 0 ≡ u16At s at
+length-at s at = u16-drop at s 0 ∙ ap (u16At s) (add-zero at)
+
+-- The page of n bytes after the length at a position, and the rest after the page.
+pub listed-next-at : (s : List ℕ) (at n : ℕ) → n ≡ u16At s at → at + 2 ≤ length s → n ≤ 512 → at + 2 + n ≤ length s
+    → listedCut (drop at s) ≡ next (take n (drop (at + 2) s)) (drop (at + 2 + n) s)
+listed-next-at s at n e h k l =
+    let len = length-drop at s in
+    let m : u16At (drop at s) 0 ≡ n = length-at s at ∙ sym e in
+    let sum : at + (2 + n) ≡ at + 2 + n = omega arith in
+    listed-next (drop at s) (omega arith) (omega arith) (omega arith) (omega arith)
+    ∙ rw (m, drop-drop 2 at s, drop-drop (2 + n) at s, sum)
+
+-- The host's next page, where some bytes are left.
+module _ (s : List ℕ) (some : 0 < length s) where
+  -- If the bytes do not begin with a page of good form, the reading ends with 3.
   pub host-fault : (c : Collector) → Held c → c .complete ≡ false → formBy (min 512 (length s)) s ≡ false
       → readFrom hostCut c s ≡ refusedAt 3 (c .pages)
   host-fault c h e f =
@@ -97,13 +97,13 @@ module _ (s : List ℕ) (some : 0 < length s) where
       let n : numberOf (openIn c t .answer) ≡ 3 =
       settled-number (openRefusal c t) c (headOf t) (componentsOf t) ∙ refused-3 c t e g in
       let k : pageEnd s ≤ length s = leb-true (pageEnd s) (length s) w in
-      read-refused c h hostCut s e t (drop (pageEnd s) s) (host-next k) 3 n (omega arith))
-      (λ w. read-broken c h hostCut s e (host-cut (leb-false (pageEnd s) (length s) w)))
+      read-refused c h hostCut s e t (drop (pageEnd s) s) (host-next s some k) 3 n (omega arith))
+      (λ w. read-broken c h hostCut s e (host-cut s some (leb-false (pageEnd s) (length s) w)))
 
-  -- Where they do, the page is cut off at its end, and taking it is taking what it says.
+  -- If they do, the page is cut off at its end, and taking it is taking what it says.
   module _ (f : formBy (min 512 (length s)) s ≡ true) where
     pub host-page : hostCut s ≡ next (take (pageEnd s) s) (drop (pageEnd s) s)
-    host-page = host-next (first-cut s f .0)
+    host-page = host-next s some (first-cut s f .0)
 
     pub host-content : (c : Collector) → c .complete ≡ false
         → openIn c (take (pageEnd s) s) ≡ contentIn c (headOf s) (componentsOf s)
@@ -112,10 +112,6 @@ module _ (s : List ℕ) (some : 0 < length s) where
         let q = first-content s f in
         ap (λ (n : ℕ). settled n c (headOf t) (componentsOf t)) (refused-content c t e (first-cut s f .1))
         ∙ ap₂ (contentIn c) (q .0) (q .1)
-
--- The part of the bytes from a position to their end.
-pub part-rest : (s : List ℕ) (at : ℕ) → take (length s - at) (drop at s) ≡ drop at s
-part-rest s at = take-all (length s - at) (drop at s) (omega (arith, length-drop at s))
 
 -- A page of good form is not empty, and ends by the end of the bytes.
 pub host-ends : (s : List ℕ) → formBy (min 512 (length s)) s ≡ true → (0 < pageEnd s) × (pageEnd s ≤ length s)

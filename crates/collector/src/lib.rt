@@ -1,7 +1,6 @@
 // The collector: gathers a layout from pages, one page at a time.
 use layout::Layout;
 use page::Head;
-use page::Walk;
 ghost use mathlib.Core.Path.{_≡_};
 ghost use mathlib.Core.Bool.{true, false};
 ghost use mathlib.Core.List.{List, map};
@@ -149,9 +148,9 @@ fn with_components(l: Layout, generation: u32, s: &[u8], places: [usize; 16], n:
     out
 }
 
-// Takes the page of good form that the bytes begin with, by what it says: 4 to 8 are asked.
-fn take_walked(c: Collector, s: &[u8], w: Walk) -> Taken
-    requires { ⌜ (collectorOk c ≡ true) × (c .complete ≡ false) × Walked (now s) w ⌝ }
+// Takes a page of good form by what it says: 4 to 8 are asked. The places of its components are the first of these.
+fn take_walked(c: Collector, s: &[u8], places: [usize; 16]) -> Taken
+    requires { ⌜ (collectorOk c ≡ true) × (c .complete ≡ false) × Walked (now s) places ⌝ }
     ensures { λ r. ⌜ r ≡ contentIn c (headOf (now (s .entry))) (componentsOf (now (s .entry))) ⌝ }
 {
     let head = page::decode::head_of(s);
@@ -164,7 +163,6 @@ fn take_walked(c: Collector, s: &[u8], w: Walk) -> Taken
     if 16 < from + n {
         return refused(5, c);
     }
-    let places = w.places;
     let next = with_components(l, head.generation, s, places, n);
     let rule = layout::rule_broken_from(next, head.more, from);
     if rule != 0 {
@@ -181,11 +179,11 @@ pub fn take_next(c: Collector, page: &[u8]) -> Taken
     if c.complete {
         return refused(2, c);
     }
-    let found = page::form::walk_page(page);
-    if !found.ok {
+    let mut places = [0usize; 16];
+    if !page::form::walk_page(page, &mut places) {
         return refused(3, c);
     }
-    take_walked(c, page, found)
+    take_walked(c, page, places)
 }
 
 // Takes a page. It answers that more pages are wanted, or that the collector is complete; refused by 1 to 8, and then

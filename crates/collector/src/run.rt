@@ -4,9 +4,9 @@ use crate::Collector;
 use crate::Reading;
 ghost use mathlib.Core.Path.{_≡_};
 ghost use mathlib.Core.List.{[]};
-ghost use Prim.Native.Nat.{_≤_, min};
+ghost use Prim.Native.Nat.{_≤_};
 ghost use Rattle.collector.specs.Taking.{numberOf};
-ghost use Rattle.collector.specs.Runs.{refusedAt, closed, readRun, listedCut, hostCut};
+ghost use Rattle.collector.specs.Runs.{refusedAt, closed, readRun, listedCut};
 
 // A reading that ends with a refusal.
 fn refused_at(number: u8, page: usize) -> Reading
@@ -44,13 +44,6 @@ fn finished(c: Collector) -> Reading
     }
 }
 
-// The lower of 512 and n.
-pub fn at_most_512(n: usize) -> usize
-    ensures { λ r. ⌜ (r ≡ min 512 n) × (r ≤ 512) × (r ≤ n) ⌝ }
-{
-    if n < 512 { n } else { 512 }
-}
-
 // Reads the listing's pages: each stands after its length, a number of two bytes.
 pub fn read_listed(s: &[u8]) -> Reading
     ensures { λ r. ⌜ r ≡ readRun listedCut (now (s .entry)) ⌝ }
@@ -82,37 +75,6 @@ pub fn read_listed(s: &[u8]) -> Reading
         }
         c = taken.collector;
         at = to;
-    }
-    if at < s.len() {
-        return refused_at(2, c.pages);
-    }
-    finished(c)
-}
-
-// Reads the host's pages, back to back: each ends after the records that its head counts.
-pub fn read_host(s: &[u8]) -> Reading
-    ensures { λ r. ⌜ r ≡ readRun hostCut (now (s .entry)) ⌝ }
-{
-    let mut c = crate::new_collector();
-    let mut at: usize = 0;
-    while !c.complete {
-        if s.len() <= at {
-            return refused_at(1, c.pages);
-        }
-        let rest = &s[at..];
-        let limit = at_most_512(rest.len());
-        let found = page::form::walk(rest, limit);
-        if !found.ok {
-            return refused_at(3, c.pages);
-        }
-        let taken = crate::take_walked(c, rest, found);
-        let answer = taken.answer;
-        let number = number_of(answer);
-        if number != 0 {
-            return refused_at(number, c.pages);
-        }
-        c = taken.collector;
-        at = at + found.end;
     }
     if at < s.len() {
         return refused_at(2, c.pages);

@@ -1,15 +1,13 @@
 -- The form of a page (refusal 3), field by field as document 01's section "Pages" has it. A place is where a record
 -- begins in the bytes. Bytes past the end of a list read as 0, and no record that reaches past the limit has its form.
 use Prim.Native.Nat.{ℕ, zero, suc, _+_, _*_}
-use mathlib.Core.List.{List, [], _∷_}
-use mathlib.Core.Bool.{Bool, true, false, cond, _&&_}
+use mathlib.Core.List.{List, [], _∷_, map}
+use mathlib.Core.Bool.{Bool, true, _&&_}
 use lib.Dec.{eqb, leb}
-use lib.ListN.{length, replicate}
-use lib.Seq.{sets}
+use lib.ListN.{length}
 use Rattle.bytes_le.specs.Numbers.{u16At, u32At}
 use Rattle.bytes_le.specs.Flags.{isSet, onlyFirst}
 use Rattle.layout.specs.Records.{countOf}
-use Rattle.page.specs.declared.Walk.{Walk}
 
 -- "Object, 16 bytes: mark 4F 42; two zero bytes"
 unfoldable pub objectForm : List ℕ → ℕ → Bool
@@ -65,6 +63,10 @@ headForm s = eqb (u16At s 0) 0x4850 && onlyFirst 1 (u16At s 2) && leb 1 (u16At s
 abbrev pub counted : List ℕ → ℕ
 counted s = u16At s 6
 
+-- The places of the components of the page that the bytes begin with, counted from `base` bytes before it.
+abbrev pub pagePlaces : ℕ → List ℕ → List ℕ
+pagePlaces base s = map (λ (p : ℕ). base + p) (placesFrom (counted s) s 16)
+
 -- Where the page ends that the bytes begin with: "each ending after the records its head counts".
 abbrev pub pageEnd : List ℕ → ℕ
 pageEnd s = endFrom (counted s) s 16
@@ -77,19 +79,3 @@ formBy limit s = leb 16 limit && headForm s && componentsForm (counted s) limit 
 -- applies.
 unfoldable pub pageForm : List ℕ → Bool
 pageForm s = leb (length s) 512 && formBy (length s) s && eqb (pageEnd s) (length s)
-
--- A walk that met a fault.
-abbrev pub faulty : Walk
-faulty = record { ok = false; end = 0; places = replicate 16 0 }
-
--- What a walk over the page at the beginning of the bytes finds: whether it has its form, where it ends, and the places
--- of its components, packed into 16 places. (A page of at most 512 bytes has at most 12 components.)
-unfoldable pub walkOf : ℕ → List ℕ → Walk
-walkOf limit s =
-    cond (formBy limit s)
-    (record { ok = true; end = pageEnd s; places = sets (replicate 16 0) 0 (placesFrom (counted s) s 16) })
-    faulty
-
--- What a walk over bytes finds that are to be one page.
-unfoldable pub pageWalk : List ℕ → Walk
-pageWalk s = cond (pageForm s) (walkOf (length s) s) faulty

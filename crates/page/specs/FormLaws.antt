@@ -1,20 +1,17 @@
--- The laws of a page's form: how many components it has, where they lie, how the form goes with the limit, and what a
--- walk finds.
+-- The laws of a page's form: how many components it has, where they lie, and how the form goes with the limit.
 use Prim.Native.Nat.{ℕ, zero, suc, _+_, _*_, _≤_, _<_}
 use mathlib.Core.Path.{_≡_, refl, ap, _∙_}
-use mathlib.Core.List.{List, map}
+use mathlib.Core.List.{List}
 use mathlib.Core.Bool.{true, _&&_}
 use native.Mathlib.Omega.{arith}
 use lib.Dec.{eqb, leb}
-use lib.ListN.{length, getD, take, replicate, length-map}
-use lib.Seq.{sets, getD-take}
+use lib.ListN.{length, getD, length-map}
 use borrow.Author.Tests.{leb-true, eqb-true, le-leb, eq-eqb}
 use Rattle.bytes_le.specs.Numbers.{u16At, u32At}
 use Rattle.bytes_le.specs.Flags.{onlyFirst}
-use Rattle.lists.specs.Bools.{bool-cases, both-true, true-both}
-use Rattle.lists.specs.Slices.{take-sets}
+use Rattle.lists.specs.Bools.{both-true, true-both}
 use Rattle.page.specs.Form.{objectsForm, componentMarks, recordsAt, behind, componentForm, componentsForm}
-use Rattle.page.specs.Form.{placesFrom, endFrom, headForm, counted, pageEnd, formBy, pageForm, walkOf, pageWalk}
+use Rattle.page.specs.Form.{placesFrom, endFrom, headForm, counted, pageEnd, formBy, pageForm}
 use Rattle.page.specs.Content.{componentAt, componentsOf}
 
 -- There are as many places as components.
@@ -176,96 +173,3 @@ page-ends s e =
 pub page-of : (s : List ℕ) → length s ≤ 512 → formBy (length s) s ≡ true → pageEnd s ≡ length s → pageForm s ≡ true
 unfolding pageForm
 page-of s h e f = true-both (true-both (le-leb (length s) 512 h) e) (eq-eqb (pageEnd s) (length s) f)
-
--- A walk meets no fault exactly if the page has its form.
-pub walk-ok : (limit : ℕ) (s : List ℕ) → walkOf limit s .ok ≡ formBy limit s
-unfolding walkOf
-walk-ok limit s = bool-cases (formBy limit s) (λ e. rw e) (λ e. rw e)
-
--- The end that a walk gives is at most the limit, also where the walk met a fault.
-pub walk-by : (limit : ℕ) (s : List ℕ) → walkOf limit s .end ≤ limit
-unfolding walkOf
-walk-by limit s = bool-cases (formBy limit s) (λ e. rw e (page-within limit s e)) (λ e. rw e (omega arith))
-
--- What a walk that met no fault found.
-module _ (limit : ℕ) (s : List ℕ) (e : walkOf limit s .ok ≡ true) where
-  -- The page has its form.
-  pub walk-form : formBy limit s ≡ true
-  walk-form = rw (walk-ok limit s) at e
-
-  -- Where the page ends.
-  pub walk-end : walkOf limit s .end ≡ pageEnd s
-  unfolding walkOf
-  walk-end = rw walk-form
-
-  -- The places of the components, packed into 16 places.
-  pub walk-places : walkOf limit s .places ≡ sets (replicate 16 0) 0 (placesFrom (counted s) s 16)
-  unfolding walkOf
-  walk-places = rw walk-form
-
-  -- In a page of at most 512 bytes all places of the components are kept, one for each.
-  pub walk-taken : limit ≤ 512 → take (counted s) (walkOf limit s .places) ≡ placesFrom (counted s) s 16
-  walk-taken h =
-      let n = length-places (counted s) s 16 in
-      let few = few-components limit s walk-form h in
-      rw walk-places (rw n at (take-sets (replicate 16 0) (placesFrom (counted s) s 16) (omega arith)))
-
-  -- The components are what stands at the places found.
-  pub walk-components : limit ≤ 512 → map (componentAt s) (take (counted s) (walkOf limit s .places)) ≡ componentsOf s
-  unfolding componentsOf
-  walk-components h = rw (walk-taken h)
-
-  -- The component at each place found ends by the limit.
-  pub walk-within : (i : ℕ) → limit ≤ 512 → i < counted s → behind s (getD (walkOf limit s .places) i 0) ≤ limit
-  walk-within i h k =
-      rw (← getD-take (counted s) (walkOf limit s .places) i 0 k, walk-taken h)
-      (place-within (counted s) limit s 16 i (form-components limit s walk-form) k)
-
--- A walk over bytes that are to be one page meets no fault exactly if they are one.
-pub page-walk-ok : (s : List ℕ) → pageWalk s .ok ≡ pageForm s
-unfolding pageWalk
-page-walk-ok s = bool-cases (pageForm s)
-    (λ e. rw e (rw (walk-ok (length s) s) (page-by s e)))
-    (λ e. rw e)
-
--- What a walk over a page that met no fault found.
-module _ (s : List ℕ) (e : pageWalk s .ok ≡ true) where
-  -- The bytes are a page.
-  pub page-walk-page : pageForm s ≡ true
-  page-walk-page = rw (page-walk-ok s) at e
-
-  -- The walk is the one up to the length.
-  pub page-walk-is : pageWalk s ≡ walkOf (length s) s
-  unfolding pageWalk
-  page-walk-is = rw page-walk-page
-
-  -- So that walk met no fault either.
-  walked : walkOf (length s) s .ok ≡ true
-  walked = rw page-walk-is at e
-
-  -- The page has its form.
-  pub page-walk-form : formBy (length s) s ≡ true
-  page-walk-form = page-by s page-walk-page
-
-  -- Where the page ends: at the end of the bytes.
-  pub page-walk-end : pageWalk s .end ≡ pageEnd s
-  page-walk-end = rw page-walk-is (walk-end (length s) s walked)
-
-  pub page-walk-whole : pageWalk s .end ≡ length s
-  page-walk-whole = page-walk-end ∙ page-ends s page-walk-page
-
-  -- The places of the components, packed into 16 places.
-  pub page-walk-places : pageWalk s .places ≡ sets (replicate 16 0) 0 (placesFrom (counted s) s 16)
-  page-walk-places = rw page-walk-is (walk-places (length s) s walked)
-
-  -- All places of the components are kept, one for each.
-  pub page-walk-taken : take (counted s) (pageWalk s .places) ≡ placesFrom (counted s) s 16
-  page-walk-taken = rw page-walk-is (walk-taken (length s) s walked (page-short s page-walk-page))
-
-  -- The components are what stands at the places found.
-  pub page-walk-components : map (componentAt s) (take (counted s) (pageWalk s .places)) ≡ componentsOf s
-  page-walk-components = rw page-walk-is (walk-components (length s) s walked (page-short s page-walk-page))
-
-  -- The component at each place found ends by the end of the bytes.
-  pub page-walk-within : (i : ℕ) → i < counted s → behind s (getD (pageWalk s .places) i 0) ≤ length s
-  page-walk-within i k = rw page-walk-is (walk-within (length s) s walked i (page-short s page-walk-page) k)

@@ -1,9 +1,10 @@
 // The form of a page (refusal 3).
-use crate::Walk;
 ghost use mathlib.Core.Path.{_≡_};
-ghost use Prim.Native.Nat.{_+_, _*_, _≤_, _<_};
-ghost use lib.ListN.{length};
-ghost use Rattle.page.specs.Form.{objectForm, objectsForm, componentMarks, recordsAt, headForm, walkOf, pageWalk};
+ghost use mathlib.Core.Bool.{true};
+ghost use Prim.Native.Nat.{_+_, _*_, _^_, _≤_, _<_};
+ghost use lib.ListN.{length, set};
+ghost use Rattle.page.specs.Form.{objectForm, objectsForm, componentMarks, recordsAt, headForm, pageForm};
+ghost use Rattle.page.specs.Walked.{Walks, Walked};
 
 // Has the object record at the place its form?
 fn object_form(s: &[u8], at: usize) -> bool
@@ -61,65 +62,67 @@ pub fn head_form(s: &[u8]) -> bool
         & (bytes_le::u32_at(s, 12) == 0)
 }
 
-const FAULTY: Walk = Walk {
-    ok: false,
-    end: 0,
-    places: [0; 16],
-};
+// Stores a place at position i, if there is one.
+fn note(places: &mut [usize; 16], i: usize, place: usize)
+    requires { ⌜ length (now places) ≡ 16 ⌝ }
+    ensures { λ _. ⌜ now (places .exit) ≡ set (now (places .entry)) i place ⌝ }
+{
+    if i < 16 {
+        places[i] = place;
+    }
+}
 
-// Walks over the page that the bytes begin with and that is to end by the limit, up to the first fault.
-pub fn walk(s: &[u8], limit: usize) -> Walk
-    requires { ⌜ (limit ≤ length (now s)) × (limit ≤ 512) ⌝ }
-    ensures { λ r. ⌜ r ≡ walkOf limit (now (s .entry)) ⌝ }
+// Walks over the page that the bytes begin with and that is to end by the limit, up to the first fault. The places of
+// its components are stored from position n on, as far as there are positions, each with `base` added: the bytes may be
+// part of longer ones, with `base` bytes before them. Gives where the page ends, or 0 if it does not have its form.
+pub fn walk(s: &[u8], limit: usize, base: usize, n: usize, places: &mut [usize; 16]) -> usize
+    requires { ⌜ (limit ≤ length (now s))
+        × (limit ≤ 512)
+        × (base + length (now s) < 2 ^ 64)
+        × (n ≤ 16)
+        × (length (now places) ≡ 16) ⌝ }
+    ensures { λ r. ⌜ Walks limit (now (s .entry)) base n (now (places .entry)) (now (places .exit)) r ⌝ }
 {
     if limit < 16 {
-        return FAULTY;
+        return 0;
     }
     if !head_form(s) {
-        return FAULTY;
+        return 0;
     }
     let count = bytes_le::u16_at(s, 6) as usize;
-    let mut places = [0usize; 16];
     let mut at: usize = 16;
     let mut i: usize = 0;
     while i < count {
         if limit - at < 40 {
-            return FAULTY;
+            return 0;
         }
         let records = record_count(s, at);
         if limit - at - 40 < 16 * records {
-            return FAULTY;
+            return 0;
         }
         if !component_marks(s, at) {
-            return FAULTY;
+            return 0;
         }
         if !objects_form(s, at + 40, records) {
-            return FAULTY;
+            return 0;
         }
-        places[i] = at;
+        note(places, n + i, base + at);
         at = at + 40 + 16 * records;
         i += 1;
     }
-    Walk {
-        ok: true,
-        end: at,
-        places: places,
-    }
+    at
 }
 
-// Walks over bytes that are to be one page, of 16 to 512 bytes and with nothing after its last record.
-pub fn walk_page(s: &[u8]) -> Walk
-    ensures { λ r. ⌜ r ≡ pageWalk (now (s .entry)) ⌝ }
+// Are the bytes one page, of 16 to 512 bytes and with nothing after its last record? If so, the places of its
+// components are stored in the first positions.
+pub fn walk_page(s: &[u8], places: &mut [usize; 16]) -> bool
+    requires { ⌜ length (now places) ≡ 16 ⌝ }
+    ensures { λ r. ⌜ (r ≡ pageForm (now (s .entry)))
+        × (pageForm (now (s .entry)) ≡ true → Walked (now (s .entry)) (now (places .exit))) ⌝ }
 {
     if 512 < s.len() {
-        return FAULTY;
+        return false;
     }
-    let found = walk(s, s.len());
-    if !found.ok {
-        return FAULTY;
-    }
-    if found.end != s.len() {
-        return FAULTY;
-    }
-    found
+    let end = walk(s, s.len(), 0, 0, places);
+    (0 < end) & (end == s.len())
 }

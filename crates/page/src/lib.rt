@@ -19,10 +19,3 @@ pub struct Head {
     pub count: u16,
     pub generation: u32,
 }
-
-// What a walk over a page finds: whether it has its form, where it ends, and the places of its components.
-pub struct Walk {
-    pub ok: bool,
-    pub end: usize,
-    pub places: [usize; 16],
-}

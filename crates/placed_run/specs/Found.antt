@@ -22,7 +22,7 @@ use Rattle.in_place.specs.Places.{componentsAt, ValidAt}
 use Rattle.placed_run.specs.declared.Progress.{Progress}
 use Rattle.placed_run.specs.declared.Found.{Found}
 use Rattle.placed_run.specs.Placing.{placedRun, endRefusal, placedRefusal}
-use Rattle.placed_run.specs.Progress.{placedOf, Kept}
+use Rattle.placed_run.specs.Progress.{placedOf, InRange}
 use Rattle.placed_run.specs.PlacingLaws.{run-alike}
 
 -- The number is that of reading the host's bytes into a layout; where it is 0, that layout has the generation and the components
@@ -34,7 +34,7 @@ pub record Finds (s : List ℕ) (r : Found) (places : List ℕ) : Type 0 where
   pub room : length places ≡ 16
 
 -- A reading in place that has come to its end.
-module _ (s : List ℕ) (p : Progress) (places : List ℕ) (k : Kept s p places) (e : placedOf p places ≡ placedRun s) where
+module _ (s : List ℕ) (p : Progress) (places : List ℕ) (k : InRange s p places) (e : placedOf p places ≡ placedRun s) where
   abbrev cs : List Component
   cs = componentsAt s (take (p .count) places)
 

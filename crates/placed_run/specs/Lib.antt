@@ -1,5 +1,4 @@
 pub mod Placing
-pub mod Walks
 pub mod Progress
 pub mod ShiftLaws
 pub mod PlacingLaws

@@ -1,23 +1,24 @@
 -- The next page: the number of its refusal test by test, and what is known once it is refused or taken.
-use Prim.Native.Nat.{ℕ, zero, suc, _+_, _-_, _≤_, _<_, min}
+use Prim.Native.Nat.{ℕ, _+_, _-_, _≤_, _<_, min}
 use mathlib.Core.Path.{_≡_, refl, sym, ap, _∙_}
-use mathlib.Core.List.{List, [], _∷_, _++_, map, append-assoc}
+use mathlib.Core.List.{List, _++_, map, append-assoc}
 use mathlib.Core.Bool.{true, false}
 use native.Mathlib.Omega.{arith}
 use lib.Dec.{eqb, leb, ltb}
-use lib.ListN.{length, getD, take, drop, length-drop, length-map, length-append}
+use lib.ListN.{length, getD, take, drop, length-drop, length-map, length-append, List·getD-map}
 use lib.Seq.{sets, slice, sets-eq, length-sets, length-take-le, getD-take, getD-append-add, take-at, drop-at}
 use borrow.Author.Tests.{ne-eqb, eq-eqb, le-leb, lt-leb, ltb-true, ltb-false}
 use Rattle.lists.specs.Bools.{bool-cases}
-use Rattle.page.specs.Form.{recordsAt, behind, counted, placesFrom, pageEnd, formBy}
+use Rattle.lists.specs.Slices.{any-default}
+use Rattle.page.specs.Form.{recordsAt, behind, counted, placesFrom, pagePlaces, pageEnd, formBy}
 use Rattle.page.specs.Content.{headOf}
 use Rattle.page.specs.FormLaws.{length-places, place-within, form-room, form-components, page-within, some-components}
 use Rattle.collector.specs.Taking.{isNext}
 use Rattle.in_place.specs.Places.{componentsAt, Within}
 use Rattle.in_place.specs.Joining.{newRuleBroken}
 use Rattle.placed_run.specs.declared.Progress.{Progress}
-use Rattle.placed_run.specs.Placing.{Placed, placesBehind, nextRefusal, withPage, placedNext}
-use Rattle.placed_run.specs.Progress.{placedOf, Kept, numbered}
+use Rattle.placed_run.specs.Placing.{Placed, nextRefusal, withPage, placedNext}
+use Rattle.placed_run.specs.Progress.{placedOf, InRange, numbered}
 use Rattle.placed_run.specs.ShiftLaws.{records-shift}
 use Rattle.placed_run.specs.PlacingLaws.{next-refused, next-taken}
 
@@ -26,12 +27,13 @@ same-first : (n i : ℕ) (xs ys : List ℕ) → take n xs ≡ take n ys → i < 
 same-first n i xs ys e h =
     sym (getD-take n xs i 0 h) ∙ ap (λ (l : List ℕ). getD l i 0) e ∙ getD-take n ys i 0 h
 
-getD-shift : (base : ℕ) (ps : List ℕ) (i : ℕ) → i < length ps → getD (map (λ (p : ℕ). base + p) ps) i 0 ≡ base + getD ps i 0
-getD-shift base [] i h = absurd (omega arith)
-getD-shift base (p ∷ ps) zero h = refl
-getD-shift base (p ∷ ps) (suc i) h = getD-shift base ps i (omega arith)
+getD-shift : (base : ℕ) (ps : List ℕ) (i : ℕ) → i < length ps
+    → getD (map (λ (p : ℕ). base + p) ps) i 0 ≡ base + getD ps i 0
+getD-shift base ps i h =
+    any-default (map (λ (p : ℕ). base + p) ps) i 0 (base + 0) (rw length-map h)
+    ∙ List·getD-map (λ (p : ℕ). base + p) ps i 0
 
-module _ (s : List ℕ) (p : Progress) (places : List ℕ) (k : Kept s p places) where
+module _ (s : List ℕ) (p : Progress) (places : List ℕ) (k : InRange s p places) where
   abbrev rest : List ℕ
   rest = drop (p .at) s
 
@@ -70,13 +72,13 @@ module _ (s : List ℕ) (p : Progress) (places : List ℕ) (k : Kept s p places)
         -- and else by the rules of fields and of neighbours.
         pub next-rule : p .count + counted rest ≤ 16 → nextRefusal s so-far
             ≡ newRuleBroken (headOf rest .more) (componentsAt s (take (p .count) places))
-            (componentsAt s (placesBehind (p .at) rest))
+            (componentsAt s (pagePlaces (p .at) rest))
         unfolding nextRefusal
         next-rule w = rw (some-left, f, e, count-taken, le-leb (p .count + counted rest) 16 w)
 
   -- The page is refused, and the first places are as they were.
   module _ (after : List ℕ) (same : take (p .count) after ≡ take (p .count) places) (room : length after ≡ 16) where
-    pub kept-refused : (n : ℕ) → Kept s (numbered n p) after
+    pub kept-refused : (n : ℕ) → InRange s (numbered n p) after
     kept-refused n =
         record {
           reached = k .reached;
@@ -97,7 +99,7 @@ module _ (s : List ℕ) (p : Progress) (places : List ℕ) (k : Kept s p places)
 
     module _ (w : p .count + counted rest ≤ 16) where
       abbrev new : List ℕ
-      new = placesBehind (p .at) rest
+      new = pagePlaces (p .at) rest
 
       abbrev after : List ℕ
       after = sets places (p .count) new
@@ -157,7 +159,7 @@ module _ (s : List ℕ) (p : Progress) (places : List ℕ) (k : Kept s p places)
 
       -- What is known once the page is taken.
       pub kept-taken : (q : Progress) → q .at ≡ p .at + pageEnd rest → q .pages ≡ p .pages + 1
-          → q .count ≡ p .count + counted rest → Kept s q after
+          → q .count ≡ p .count + counted rest → InRange s q after
       kept-taken q at pages count =
           record {
             reached = omega (arith, page-within (min 512 (length rest)) rest f, length-drop (p .at) s, k .reached);

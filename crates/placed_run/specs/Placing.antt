@@ -1,12 +1,12 @@
 -- Reading the host's pages in place: what is noted of a page is where its components stand in the bytes. The rules of fields and
 -- of neighbours are asked page by page, distinctness once at the end.
 use Prim.Native.Nat.{ℕ, zero, suc, _+_, min}
-use mathlib.Core.List.{List, [], _++_, map}
+use mathlib.Core.List.{List, [], _++_}
 use mathlib.Core.Bool.{Bool, true, cond, _&&_}
 use lib.Dec.{eqb, leb}
 use lib.ListN.{length, drop}
 use Rattle.layout.specs.Distinct.{distinctHold}
-use Rattle.page.specs.Form.{counted, pageEnd, formBy, placesFrom}
+use Rattle.page.specs.Form.{counted, pagePlaces, pageEnd, formBy}
 use Rattle.page.specs.Content.{headOf}
 use Rattle.collector.specs.Taking.{isNext}
 use Rattle.in_place.specs.Places.{componentsAt}
@@ -26,10 +26,6 @@ pub record Placed : Type 0 where
 abbrev pub nonePlaced : Placed
 nonePlaced = record { refusal = 0; at = 0; pages = 0; generation = 0; more = true; places = [] }
 
--- The places of the components of the page that bytes t begin with, where `base` bytes stand before t.
-abbrev pub placesBehind : ℕ → List ℕ → List ℕ
-placesBehind base t = map (λ (p : ℕ). base + p) (placesFrom (counted t) t 16)
-
 -- The number of the refusal of the next page, or 0: 1 where no bytes are left, 3 to 5 as a collector gives them, and 6 or 7 by
 -- the rules of fields and of neighbours, of the new components behind the old ones.
 unfoldable pub nextRefusal : List ℕ → Placed → ℕ
@@ -40,7 +36,7 @@ nextRefusal s p =
     (cond (formBy (min 512 (length t)) t)
     (cond (isNext (p .pages) (p .generation) (headOf t))
     (cond (leb (length (p .places) + counted t) 16)
-    (newRuleBroken (headOf t .more) (componentsAt s (p .places)) (componentsAt s (placesBehind (p .at) t)))
+    (newRuleBroken (headOf t .more) (componentsAt s (p .places)) (componentsAt s (pagePlaces (p .at) t)))
     5)
     4)
     3)
@@ -67,7 +63,7 @@ withPage s p =
       pages = p .pages + 1;
       generation = headOf t .generation;
       more = headOf t .more;
-      places = p .places ++ placesBehind (p .at) t;
+      places = p .places ++ pagePlaces (p .at) t;
     }
 
 -- The reading under the number of a refusal of the next page, or under 0.

@@ -2,7 +2,7 @@
 -- end gives the number that asking page by page gives.
 use Prim.Native.Nat.{ℕ, zero, suc, _+_, _-_, _≤_, _<_, min}
 use mathlib.Core.Path.{_≡_, refl, sym, ap, ap₂, subst, _∙_}
-use mathlib.Core.List.{List, [], _∷_, _++_, map, append-nil, append-assoc}
+use mathlib.Core.List.{List, [], _∷_, _++_, map, append-nil, append-assoc, map-append}
 use mathlib.Core.Bool.{Bool, true, false, not, cond, _&&_, and-false}
 use native.Mathlib.Omega.{arith}
 use lib.Dec.{eqb, leb}
@@ -12,14 +12,13 @@ use borrow.Author.Tests.{eqb-true, eqb-false, eq-eqb, ne-eqb, leb-true, leb-fals
 use Rattle.lists.specs.Bools.{bool-cases, both-true, true-both, clash}
 use Rattle.lists.specs.Tests.{every, take-along, every-take}
 use Rattle.lists.specs.Counting.{fresh, unseen, seenWith}
-use Rattle.lists.specs.Slices.{map-append}
 use Rattle.layout.specs.declared.Component.{Component}
 use Rattle.layout.specs.Records.{idOf, idsOf, recordsIn, packed}
 use Rattle.layout.specs.Distinct.{sameObject, idTests, objectTests, distinctHold}
 use Rattle.layout.specs.Rules.{ruleBroken}
 use Rattle.layout.specs.FactLaws.{rules-hold}
 use Rattle.layout.specs.PrefixLaws.{recordsIn-append}
-use Rattle.page.specs.Form.{counted, pageEnd, formBy}
+use Rattle.page.specs.Form.{counted, pagePlaces, pageEnd, formBy}
 use Rattle.page.specs.Content.{componentAt, headOf, componentsOf}
 use Rattle.page.specs.FormLaws.{length-components, some-components}
 use Rattle.collector.specs.declared.Collector.{Collector}
@@ -36,7 +35,7 @@ use Rattle.collector.specs.Runs.{refusedAt, closed, readRun, hostCut}
 use Rattle.in_place.specs.Places.{componentsAt}
 use Rattle.in_place.specs.Joining.{newRuleBroken}
 use Rattle.in_place.specs.JoiningLaws.{rule-new, rule-rest}
-use Rattle.placed_run.specs.Placing.{Placed, nonePlaced, placesBehind, nextRefusal, refusedBy, withPage, placedBy}
+use Rattle.placed_run.specs.Placing.{Placed, nonePlaced, nextRefusal, refusedBy, withPage, placedBy}
 use Rattle.placed_run.specs.Placing.{placedNext, goesOn, placedOn, placedRun, endRefusal, placedRefusal}
 use Rattle.placed_run.specs.ShiftLaws.{placed-components}
 
@@ -64,7 +63,7 @@ module _ (s : List ℕ) where
 
   -- Reading on only adds places behind those that are there.
   next-adds : (p : Placed) (n : ℕ) → (ps : List ℕ) × (placedBy n s p .places ≡ p .places ++ ps)
-  next-adds p zero = (placesBehind (p .at) (drop (p .at) s), refl)
+  next-adds p zero = (pagePlaces (p .at) (drop (p .at) s), refl)
   next-adds p (suc n) = ([], sym (append-nil (p .places)))
 
   places-added : (left : ℕ) (p : Placed) → (ps : List ℕ) × (placedOn left s p .places ≡ p .places ++ ps)
@@ -154,9 +153,9 @@ module _ (s : List ℕ) where
       abbrev new : List Component
       new = componentsOf rest
 
-      added-components : componentsAt s (p .places ++ placesBehind (p .at) rest) ≡ gathered c ++ new
+      added-components : componentsAt s (p .places ++ pagePlaces (p .at) rest) ≡ gathered c ++ new
       added-components =
-          map-append (componentAt s) (p .places) (placesBehind (p .at) rest)
+          map-append (componentAt s) (p .places) (pagePlaces (p .at) rest)
           ∙ ap₂ (λ (a b : List Component). a ++ b) (sym (m .components)) (placed-components s (p .at))
 
       has-some : 0 < length new
@@ -270,7 +269,7 @@ module _ (s : List ℕ) where
           let a = places-added left (withPage s p) in
           let all : componentsAt s (q .places) ≡ (gathered c ++ new) ++ componentsAt s (a .0) =
           ap (componentsAt s) (a .1)
-          ∙ map-append (componentAt s) (p .places ++ placesBehind (p .at) rest) (a .0)
+          ∙ map-append (componentAt s) (p .places ++ pagePlaces (p .at) rest) (a .0)
           ∙ ap (λ (x : List Component). x ++ componentsAt s (a .0)) added-components in
           let repeat : distinctHold (componentsAt s (q .places)) ≡ false =
           bool-cases (distinctHold (componentsAt s (q .places)))

@@ -21,7 +21,7 @@ placedOf p places =
 
 -- The next page begins within the bytes or at their end; no more pages than components were taken, and at most 16 components;
 -- each of these ends by the end of the bytes.
-pub record Kept (s : List ℕ) (p : Progress) (places : List ℕ) : Type 0 where
+pub record InRange (s : List ℕ) (p : Progress) (places : List ℕ) : Type 0 where
   pub reached : p .at ≤ length s
   pub pages : p .pages ≤ p .count
   pub few : p .count ≤ 16

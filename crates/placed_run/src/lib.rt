@@ -3,12 +3,12 @@
 use page::Head;
 ghost use mathlib.Core.Path.{_≡_};
 ghost use mathlib.Core.List.{List};
-ghost use Prim.Native.Nat.{ℕ, _+_, _^_, _≤_, _<_, min};
-ghost use lib.ListN.{length, drop, set};
+ghost use Prim.Native.Nat.{ℕ, _+_, _≤_, min};
+ghost use lib.ListN.{length, drop};
 ghost use Rattle.page.specs.Content.{headOf};
-ghost use Rattle.placed_run.specs.Walks.{Walks};
+ghost use Rattle.page.specs.Walked.{Walks};
 ghost use Rattle.placed_run.specs.Placing.{placedNext, placedRun, endRefusal};
-ghost use Rattle.placed_run.specs.Progress.{placedOf, Kept, numbered};
+ghost use Rattle.placed_run.specs.Progress.{placedOf, InRange, numbered};
 ghost use Rattle.placed_run.specs.Found.{Finds};
 
 // How far a reading has come: the number of a refusal, or 0; where the next page begins; the number of pages taken;
@@ -30,55 +30,11 @@ pub struct Found {
     pub count: usize,
 }
 
-// Stores a place at position i, where there is one.
-fn note(places: &mut [usize; 16], i: usize, place: usize)
-    requires { ⌜ length (now places) ≡ 16 ⌝ }
-    ensures { λ _. ⌜ now (places .exit) ≡ set (now (places .entry)) i place ⌝ }
+// The lower of 512 and n.
+fn at_most_512(n: usize) -> usize
+    ensures { λ r. ⌜ (r ≡ min 512 n) × (r ≤ 512) × (r ≤ n) ⌝ }
 {
-    if i < 16 {
-        places[i] = place;
-    }
-}
-
-// Walks over the page that the bytes begin with and that is to end by the limit, and stores the places of its
-// components from position n on, as far as there are positions. `base` bytes stand before the page, and places are
-// counted from the first of them. Gives where the page ends, or 0 where it has not its form.
-fn walk_onto(s: &[u8], limit: usize, base: usize, n: usize, places: &mut [usize; 16]) -> usize
-    requires { ⌜ (limit ≤ length (now s))
-        × (limit ≤ 512)
-        × (base + length (now s) < 2 ^ 64)
-        × (n ≤ 16)
-        × (length (now places) ≡ 16) ⌝ }
-    ensures { λ r. ⌜ Walks limit (now (s .entry)) base n (now (places .entry)) (now (places .exit)) r ⌝ }
-{
-    if limit < 16 {
-        return 0;
-    }
-    if !page::form::head_form(s) {
-        return 0;
-    }
-    let count = bytes_le::u16_at(s, 6) as usize;
-    let mut at: usize = 16;
-    let mut i: usize = 0;
-    while i < count {
-        if limit - at < 40 {
-            return 0;
-        }
-        let records = page::form::record_count(s, at);
-        if limit - at - 40 < 16 * records {
-            return 0;
-        }
-        if !page::form::component_marks(s, at) {
-            return 0;
-        }
-        if !page::form::objects_form(s, at + 40, records) {
-            return 0;
-        }
-        note(places, n + i, base + at);
-        at = at + 40 + 16 * records;
-        i += 1;
-    }
-    at
+    if n < 512 { n } else { 512 }
 }
 
 // Walks over the page that begins at `at` and stores the places of its components from position n on, as far as there
@@ -90,8 +46,8 @@ fn walk_next(s: &[u8], at: usize, n: usize, places: &mut [usize; 16]) -> usize
         Walks (min 512 (length t)) t at n (now (places .entry)) (now (places .exit)) r) ⌝ }
 {
     let rest = &s[at..];
-    let limit = collector::run::at_most_512(rest.len());
-    walk_onto(rest, limit, at, n, places)
+    let limit = at_most_512(rest.len());
+    page::form::walk(rest, limit, at, n, places)
 }
 
 // What the head of the page says that begins at `at`.
@@ -121,10 +77,10 @@ fn refused(p: Progress, number: u8) -> Progress
 // collector refuses it, and by 6 or 7 where its components break the rules of fields or of neighbours behind those
 // taken before.
 fn take_next(s: &[u8], p: Progress, places: &mut [usize; 16]) -> Progress
-    requires { ⌜ Kept (now s) p (now places) ⌝ }
+    requires { ⌜ InRange (now s) p (now places) ⌝ }
     ensures { λ r. ⌜ (placedOf r (now (places .exit))
         ≡ placedNext (now (s .entry)) (placedOf p (now (places .entry))))
-        × Kept (now (s .entry)) r (now (places .exit)) ⌝ }
+        × InRange (now (s .entry)) r (now (places .exit)) ⌝ }
 {
     if s.len() <= p.at {
         return refused(p, 1);
@@ -159,7 +115,7 @@ fn take_next(s: &[u8], p: Progress, places: &mut [usize; 16]) -> Progress
 fn read_on(s: &[u8], places: &mut [usize; 16]) -> Progress
     requires { ⌜ length (now places) ≡ 16 ⌝ }
     ensures { λ r. ⌜ (placedOf r (now (places .exit)) ≡ placedRun (now (s .entry)))
-        × Kept (now (s .entry)) r (now (places .exit)) ⌝ }
+        × InRange (now (s .entry)) r (now (places .exit)) ⌝ }
 {
     let mut p = Progress {
         refusal: 0,

@@ -3,7 +3,7 @@ use mathlib.Core.Path.{ap, _∙_}
 use denote.Ref.{now}
 use borrow.Author.Needs.{needs}
 use Rattle.page.specs.Content.{headOf}
-use Rattle.collector.specs.CutLaws.{part-rest}
+use Rattle.placed_run.specs.ShiftLaws.{part-rest}
 use Rattle.placed_run.proofs.head_next.Statement.{statement}
 use Rattle.placed_run.proofs.head_next.Tie as tie
 

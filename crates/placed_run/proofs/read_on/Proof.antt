@@ -5,13 +5,13 @@ use native.Mathlib.Omega.{arith}
 use denote.Ref.{now}
 use borrow.Author.Needs.{needs}
 use Rattle.placed_run.specs.Placing.{Placed, placedRun}
-use Rattle.placed_run.specs.Progress.{placedOf, Kept}
+use Rattle.placed_run.specs.Progress.{placedOf, InRange}
 use Rattle.placed_run.specs.TurnLaws.{placedFrom, turnsLeft, turn-start, turn-end, turn-next, turn-less}
 use Rattle.placed_run.proofs.read_on.Statement.{statement}
 use Rattle.placed_run.proofs.read_on.Tie as tie
 
 abbrev Inv-loop : tie.InvT-loop
-Inv-loop s places₀ p₀ places p = Kept s p places × (placedRun s ≡ placedFrom s (placedOf p places))
+Inv-loop s places₀ p₀ places p = InRange s p places × (placedRun s ≡ placedFrom s (placedOf p places))
 
 abbrev μ-loop : tie.MeasureT-loop
 μ-loop s places₀ p₀ places p = turnsLeft (placedOf p places)

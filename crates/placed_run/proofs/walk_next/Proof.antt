@@ -5,7 +5,7 @@ use native.Mathlib.Omega.{arith}
 use lib.ListN.{length, drop, length-drop}
 use denote.Ref.{now}
 use borrow.Author.Needs.{needs}
-use Rattle.collector.specs.CutLaws.{part-rest}
+use Rattle.placed_run.specs.ShiftLaws.{part-rest}
 use Rattle.placed_run.proofs.walk_next.Statement.{statement}
 use Rattle.placed_run.proofs.walk_next.Tie as tie
 
@@ -15,7 +15,7 @@ returns c =
     let s = now (a .s) in
     let limit : c .before .before .at-most-512 .result ≡ min 512 (length (drop (a .at) s)) =
     omega (arith, c .before .before .at-most-512 .ensures .0, length-drop (a .at) s) in
-    rw (part-rest s (a .at)) at (rw limit at (c .walk-onto .ensures))
+    rw (part-rest s (a .at)) at (rw limit at (c .walk .ensures))
 
 pub walk-next-spec : {M : Type 1} → statement M
 walk-next-spec =

@@ -6,22 +6,22 @@ use mathlib.Core.Bool.{Bool, true, false, not, cond, _||_}
 use native.Mathlib.Omega.{arith}
 use native.Mathlib.Nat.{add-zero}
 use lib.Dec.{eqb}
-use lib.ListN.{length, getD, take, drop, length-append}
-use lib.Seq.{getD-take, take-append-add, drop-append-add}
+use lib.ListN.{length, take, drop, length-append}
+use lib.Seq.{take-append-add, drop-append-add}
 use Rattle.lists.specs.Bools.{cond-elim, bool-cases, clash}
 use Rattle.layout.specs.declared.Object.{Object}
 use Rattle.layout.specs.declared.Component.{Component}
-use Rattle.layout.specs.Records.{noObject, packObjects, recordsOf}
+use Rattle.layout.specs.Records.{recordsOf}
 use Rattle.layout.specs.RecordLaws.{records-pack}
 use Rattle.free_table.specs.Table.{anyLow, usable}
 use Rattle.free_table.specs.Choosing.{chosen}
 use Rattle.free_table.specs.ChoosingLaws.{chosen-few}
-use Rattle.growth_rules.specs.Parts.{withExtent, madeInit, repeatOf, reach, leaving, following}
+use Rattle.growth_rules.specs.Parts.{withExtent, madeInit, repeatBase, repeatOf, reach, leaving, following}
 use Rattle.growth_rules.specs.Parts.{granting as granted}
 use Rattle.growth_rules.specs.Steps.{Call, Step, lacks, changes, choosing, heldStep, spillStep, lowStep, extensionStep}
 use Rattle.growth_rules.specs.StepLaws.{behindAll, behind-changes, behind-stays, behind-lacks}
 use Rattle.growth.specs.declared.Plan.{Plan}
-use Rattle.growth.specs.Plans.{standing, planned, plannedObjects, planSays, noPlan, replacing, granting, initWith, repeatBase, onObjects}
+use Rattle.growth.specs.Plans.{standing, planned, plannedObjects, planSays, noPlan, replacing, granting, onObjects}
 use Rattle.growth.specs.Plans.{choosingPlan, heldPlan, followPlan, spillPlan, repeatPlan, lowPlan, extensionPlan}
 
 -- Of the components cs behind others, a plan says the step s behind those others; its own are among them all; it has chosen
@@ -38,18 +38,6 @@ by-test : {before cs : List Component} (t : Bool) {p q : Plan} {s r : Step}
 by-test true f g = f refl
 by-test false f g = g refl
 
--- The first of the packed object records.
-first-packed : (os : List Object) → length os ≤ 16 → getD (packObjects os) 0 noObject ≡ getD os 0 noObject
-unfolding packObjects
-first-packed [] h = refl
-first-packed (o ∷ os) h =
-    sym (getD-take (length (o ∷ os)) (packObjects (o ∷ os)) 0 noObject (omega arith))
-    ∙ ap (λ (l : List Object). getD l 0 noObject) (records-pack (o ∷ os) h)
-
--- A component made init on the packed object records is made init on them.
-made-init : (os : List Object) (c : Component) → length os ≤ 16 → initWith (packObjects os) c ≡ madeInit os c
-made-init os c h = rw (first-packed os h)
-
 -- What a plan makes of components behind others.
 planned-behind : (p : Plan) (before cs : List Component) (a : ℕ) → p .at ≡ length before + a
     → planned p (before ++ cs) ≡ before ++ (take a cs ++ standing p (drop (p .old) (drop a cs)))
@@ -62,23 +50,13 @@ left-over : (t : Bool) (x : Component) (cs : List Component) → cond (not t) (x
 left-over true x cs = refl
 left-over false x cs = refl
 
--- What a grant puts there,
+-- What a grant puts there, on chosen object records too (for c made init on them).
 granting-stands : (at old from : ℕ) (c x : Component) (cs : List Component)
     → standing (granting at old c x from) cs ≡ withExtent (c .begin) (reach from x) c ∷ leaving (reach from x) x cs
 unfolding leaving
 granting-stands at old from c x cs =
     ap (λ (l : List Component). withExtent (c .begin) (reach from x) c ∷ l)
     (left-over (eqb (reach from x) (x .end)) (withExtent (reach from x) (x .end) x) cs)
-
--- and on chosen object records.
-chosen-stands : (at old from : ℕ) (c x : Component) (cs : List Component) (os : List Object) → length os ≤ 16
-    → standing (onObjects (granting at old c x from) os) cs
-    ≡ withExtent (c .begin) (reach from x) (madeInit os c) ∷ leaving (reach from x) x cs
-unfolding leaving
-chosen-stands at old from c x cs os h =
-    rw (made-init os (withExtent (c .begin) (reach from x) c) h)
-    (ap (λ (l : List Component). withExtent (c .begin) (reach from x) (madeInit os c) ∷ l)
-    (left-over (eqb (reach from x) (x .end)) (withExtent (reach from x) (x .end) x) cs))
 
 module _ (k : Call) where
   -- Choosing behind other components.
@@ -90,14 +68,13 @@ module _ (k : Call) where
       (λ e. rw e (behind-changes before (made (chosen (usable (k .mark)) s (k .table))) (chosen (usable (k .mark)) s (k .table))))
       (λ e. rw e)
 
-  -- Choosing gives the same where the same is made of the chosen object records, of which there are at most 16.
-  same-choosing : (s : ℕ) → s ≤ 16 → (made made' : List Object → List Component) (other : Step)
-      → ((os : List Object) → length os ≤ 16 → made os ≡ made' os) → choosing k s made other ≡ choosing k s made' other
+  -- Choosing gives the same if the same is made of the chosen object records.
+  same-choosing : (s : ℕ) (made made' : List Object → List Component) (other : Step)
+      → ((os : List Object) → made os ≡ made' os) → choosing k s made other ≡ choosing k s made' other
   unfolding choosing
-  same-choosing s h made made' other e =
+  same-choosing s made made' other e =
       let os = chosen (usable (k .mark)) s (k .table) in
-      let same = e os (omega (arith, chosen-few (usable (k .mark)) s (k .table))) in
-      ap (λ (cs : List Component). cond (eqb (length os) s) (changes cs os) other) same
+      ap (λ (cs : List Component). cond (eqb (length os) s) (changes cs os) other) (e os)
 
   -- A plan that changes components, with targets chosen for the one that it makes.
   choosing-means : (p : Plan) (cs : List Component) → p .lacks ≡ false → p .changes ≡ true → p .made .«stripe_count» ≤ 16
@@ -121,7 +98,7 @@ module _ (k : Call) where
   -- The same, where the plan stands behind other components and makes what a step makes of the chosen object records.
   choosing-behind : (p : Plan) (before cs : List Component) → p .lacks ≡ false → p .changes ≡ true → p .made .«stripe_count» ≤ 16
       → p .at + p .old ≤ length (before ++ cs) → (made : List Object → List Component)
-      → ((os : List Object) → length os ≤ 16 → planned (onObjects p os) (before ++ cs) ≡ before ++ made os)
+      → ((os : List Object) → planned (onObjects p os) (before ++ cs) ≡ before ++ made os)
       → Means before cs (choosingPlan (k .mark) (k .table) p) (choosing k (p .made .«stripe_count») made lacks)
   choosing-behind p before cs l c h w made e =
       let m = choosing-means p (before ++ cs) l c h w in
@@ -129,7 +106,7 @@ module _ (k : Call) where
       record {
         says =
             m .says
-            ∙ same-choosing s h (λ os. planned (onObjects p os) (before ++ cs)) (λ os. before ++ made os) lacks e
+            ∙ same-choosing s (λ os. planned (onObjects p os) (before ++ cs)) (λ os. before ++ made os) lacks e
             ∙ sym (behind-choosing before s made lacks ∙ ap (choosing k s (λ os. before ++ made os)) (behind-lacks before));
         within = m .within;
         few = m .few;
@@ -147,8 +124,7 @@ module _ (k : Call) where
         (λ e. rw e
         (choosing-behind (replacing j 1 c) before (c ∷ cs) refl refl h
         (omega (arith, length-append before (c ∷ cs))) (λ os. madeInit os c ∷ cs)
-        (λ os few. planned-behind (onObjects (replacing j 1 c) os) before (c ∷ cs) 0 (place ∙ sym (add-zero (length before)))
-        ∙ rw (made-init os c few))))
+        (λ os. planned-behind (onObjects (replacing j 1 c) os) before (c ∷ cs) 0 (place ∙ sym (add-zero (length before))))))
 
     -- The position of the component directly behind.
     next-place : j + 1 ≡ length before + 1
@@ -181,8 +157,8 @@ module _ (k : Call) where
       init-means cs h =
           choosing-behind (granting j 2 c x (x .begin)) before (c ∷ x ∷ cs) refl refl h
           (omega (arith, length-append before (c ∷ x ∷ cs))) (λ os. granted (madeInit os c) x cs)
-          (λ os few. planned-behind (onObjects (granting j 2 c x (x .begin)) os) before (c ∷ x ∷ cs) 0 (place ∙ sym (add-zero (length before)))
-          ∙ ap (λ (l : List Component). before ++ l) (chosen-stands j 2 (x .begin) c x cs os few))
+          (λ os. planned-behind (onObjects (granting j 2 c x (x .begin)) os) before (c ∷ x ∷ cs) 0 (place ∙ sym (add-zero (length before)))
+          ∙ ap (λ (l : List Component). before ++ l) (granting-stands j 2 (x .begin) (madeInit os c) x cs))
 
       -- Spill-over onto an init component,
       onto-init : (n : Component) (cs : List Component) → Means before (c ∷ x ∷ n ∷ cs)
@@ -208,8 +184,7 @@ module _ (k : Call) where
           let p = replacing (j + 1) 2 (withExtent (x .begin) (n .end) n) in
           choosing-behind p before (c ∷ x ∷ n ∷ cs) refl refl h (omega (arith, length-append before (c ∷ x ∷ n ∷ cs)))
           (λ os. c ∷ withExtent (x .begin) (n .end) (madeInit os n) ∷ cs)
-          (λ os few. planned-behind (onObjects p os) before (c ∷ x ∷ n ∷ cs) 1 next-place
-          ∙ rw (made-init os (withExtent (x .begin) (n .end) n) few))
+          (λ os. planned-behind (onObjects p os) before (c ∷ x ∷ n ∷ cs) 1 next-place)
 
       -- and where the extension y follows it.
       onto-extended : (n y : Component) (cs : List Component) → n .«stripe_count» ≤ 16 → Means before (c ∷ x ∷ n ∷ y ∷ cs)
@@ -221,8 +196,8 @@ module _ (k : Call) where
           let p = granting (j + 1) 3 m y (x .begin) in
           choosing-behind p before (c ∷ x ∷ n ∷ y ∷ cs) refl refl h (omega (arith, length-append before (c ∷ x ∷ n ∷ y ∷ cs)))
           (λ os. c ∷ withExtent (x .begin) (reach (x .begin) y) (madeInit os n) ∷ leaving (reach (x .begin) y) y cs)
-          (λ os few. planned-behind (onObjects p os) before (c ∷ x ∷ n ∷ y ∷ cs) 1 next-place
-          ∙ ap (λ (l : List Component). before ++ (c ∷ l)) (chosen-stands (j + 1) 3 (x .begin) m y cs os few))
+          (λ os. planned-behind (onObjects p os) before (c ∷ x ∷ n ∷ y ∷ cs) 1 next-place
+          ∙ ap (λ (l : List Component). before ++ (c ∷ l)) (granting-stands (j + 1) 3 (x .begin) (madeInit os m) y cs))
 
       -- A component that is chosen for, where t says that the extension y follows it.
       followed-means : (n y : Component) (cs : List Component) → n .«stripe_count» ≤ 16 → (t : Bool)
@@ -269,7 +244,7 @@ module _ (k : Call) where
             says =
                 rw (
                   planned-behind (onObjects q os) before (c ∷ x ∷ []) 1 next-place,
-                  chosen-stands (j + 1) 1 (x .begin) (repeatBase new (x .begin) c) x [] os few,
+                  granting-stands (j + 1) 1 (x .begin) (madeInit os (repeatBase new (x .begin) c)) x [],
                   records-pack os few,
                 ) (sym (behind-changes before made os));
             within = omega (arith, length-append before (c ∷ x ∷ []));

@@ -4,16 +4,15 @@ use mathlib.Core.Path.{_≡_}
 use mathlib.Core.List.{List, [], _∷_, _++_}
 use mathlib.Core.Bool.{Bool, true, false, not, cond, _||_}
 use lib.Dec.{ltb, eqb}
-use lib.IntN.{pos}
-use lib.ListN.{length, getD, take, drop}
+use lib.ListN.{length, take, drop}
 use Rattle.layout.specs.declared.Object.{Object}
 use Rattle.layout.specs.declared.Component.{Component}
 use Rattle.layout.specs.declared.Layout.{Layout}
-use Rattle.layout.specs.Records.{noObject, noComponent, packObjects, recordsOf, recordsIn, view}
+use Rattle.layout.specs.Records.{noComponent, recordsOf, recordsIn, view}
 use Rattle.free_table.specs.declared.TargetRecord.{TargetRecord}
 use Rattle.free_table.specs.Table.{anyLow, usable}
 use Rattle.free_table.specs.Choosing.{chosen}
-use Rattle.growth_rules.specs.Parts.{withExtent, reach}
+use Rattle.growth_rules.specs.Parts.{withExtent, madeInit, repeatBase, reach}
 use Rattle.growth_rules.specs.Steps.{Call, Step, stays, lacks, changes}
 use Rattle.growth_rules.specs.Growing.{meets, stepOf}
 use Rattle.growth.specs.declared.Plan.{Plan}
@@ -87,38 +86,6 @@ granting at old c x from =
       chosen = 0;
     }
 
--- A component made init on the objects of an array.
-abbrev pub initWith : List Object → Component → Component
-initWith objects c =
-    record {
-      init = true;
-      extension = c .extension;
-      id = c .id;
-      «stripe_count» = c .«stripe_count»;
-      «stripe_size» = c .«stripe_size»;
-      «first_target» = pos (getD objects 0 noObject .target);
-      begin = c .begin;
-      end = c .end;
-      «extension_size» = c .«extension_size»;
-      objects = objects;
-    }
-
--- The component that repeats c, before its targets are chosen.
-abbrev pub repeatBase : ℕ → ℕ → Component → Component
-repeatBase new begin c =
-    record {
-      init = c .init;
-      extension = false;
-      id = new;
-      «stripe_count» = c .«stripe_count»;
-      «stripe_size» = c .«stripe_size»;
-      «first_target» = c .«first_target»;
-      begin = begin;
-      end = c .end;
-      «extension_size» = 0;
-      objects = c .objects;
-    }
-
 -- A plan on chosen object records.
 abbrev pub onObjects : Plan → List Object → Plan
 onObjects p os =
@@ -127,7 +94,7 @@ onObjects p os =
       changes = p .changes;
       at = p .at;
       old = p .old;
-      made = initWith (packObjects os) (p .made);
+      made = madeInit os (p .made);
       leaves = p .leaves;
       left = p .left;
       chosen = length os;

@@ -8,8 +8,7 @@ ghost use lib.IntN.{pos};
 ghost use lib.ListN.{getD, take};
 ghost use Rattle.lists.specs.Counting.{elem};
 ghost use Rattle.layout.specs.Records.{noObject, idsOf};
-ghost use Rattle.growth_rules.specs.Parts.{withExtent, reach, freshId};
-ghost use Rattle.growth.specs.Plans.{initWith, repeatBase};
+ghost use Rattle.growth_rules.specs.Parts.{withExtent, initWith, repeatBase, reach, freshId};
 
 // The component with another extent.
 pub fn with_extent(c: Component, begin: u64, end: u64) -> Component

@@ -26,38 +26,45 @@ withExtent begin end c =
       objects = c .objects;
     }
 
--- "make it init": a component with object records on the chosen targets, the rest of its places blank. Its first target is that
--- of the first record.
-abbrev pub madeInit : List Object → Component → Component
-madeInit os c =
+-- A component made init on the object records in the places of an array. Its first target is that of the first of them.
+abbrev pub initWith : List Object → Component → Component
+initWith objects c =
     record {
       init = true;
       extension = c .extension;
       id = c .id;
       «stripe_count» = c .«stripe_count»;
       «stripe_size» = c .«stripe_size»;
-      «first_target» = pos (getD os 0 noObject .target);
+      «first_target» = pos (getD objects 0 noObject .target);
       begin = c .begin;
       end = c .end;
       «extension_size» = c .«extension_size»;
-      objects = packObjects os;
+      objects = objects;
     }
 
--- "A new init component .. with C's stripe size and count, on newly chosen targets", with a new id and an extent of its own.
-abbrev pub repeatOf : ℕ → Component → ℕ → ℕ → List Object → Component
-repeatOf new c begin end os =
+-- "make it init": a component with object records on the chosen targets, the rest of its places blank.
+abbrev pub madeInit : List Object → Component → Component
+madeInit os c = initWith (packObjects os) c
+
+-- The component that repeats c, with a new id, before targets are chosen for it.
+abbrev pub repeatBase : ℕ → ℕ → Component → Component
+repeatBase new begin c =
     record {
-      init = true;
+      init = c .init;
       extension = false;
       id = new;
       «stripe_count» = c .«stripe_count»;
       «stripe_size» = c .«stripe_size»;
-      «first_target» = pos (getD os 0 noObject .target);
+      «first_target» = c .«first_target»;
       begin = begin;
-      end = end;
+      end = c .end;
       «extension_size» = 0;
-      objects = packObjects os;
+      objects = c .objects;
     }
+
+-- "A new init component .. with C's stripe size and count, on newly chosen targets", with a new id and an extent of its own.
+abbrev pub repeatOf : ℕ → Component → ℕ → ℕ → List Object → Component
+repeatOf new c begin end os = withExtent begin end (madeInit os (repeatBase new begin c))
 
 -- The lower of a begin + an extension's size and the extension's end: "N ends at the lower of N's new begin + Y's extension size
 -- and Y's end". From the extension's own begin on, this is where a grant ends: "A grant moves the lower of X's extension size and

@@ -6,6 +6,7 @@ use mathlib.Core.Bool.{true, false}
 use native.Mathlib.Omega.{arith}
 use lib.IntN.{pos}
 use lib.ListN.{length, getD}
+use lib.Seq.{getD-take}
 use Rattle.lists.specs.Bools.{clash}
 use Rattle.lists.specs.Counting.{count}
 use Rattle.layout.specs.declared.Object.{Object}
@@ -25,16 +26,18 @@ chosen-records {s} {os} c i p e few ch = rw (i, p, e, ← ch .enough) (records-p
 -- A component on chosen object records is init.
 chosen-init : {s : ℕ} {os : List Object} (c : Component) → c .init ≡ true → c .extension ≡ false → Striped c → c .begin < c .end
     → c .objects ≡ packObjects os → c .«stripe_count» ≡ s → Chosen s os
-    → c .«first_target» ≡ pos (getD os 0 noObject .target) → IsInit c
+    → c .«first_target» ≡ pos (getD (c .objects) 0 noObject .target) → IsInit c
 chosen-init c i x s h p e ch first =
     let same = chosen-records c i p e (omega (arith, s .few)) ch in
+    let here : getD (recordsOf c) 0 noObject ≡ getD (c .objects) 0 noObject =
+    rw i (getD-take (c .«stripe_count») (c .objects) 0 noObject (s .some)) in
     record {
       init = i;
       extension = x;
       striped = s;
       extent = h;
       records = ap length same ∙ ch .enough ∙ sym e;
-      first = first ∙ sym (ap (λ (os : List Object). pos (getD os 0 noObject .target)) same);
+      first = first ∙ ap (λ (o : Object). pos (o .target)) (sym here);
       targets = rw same (ch .targets);
     }
 

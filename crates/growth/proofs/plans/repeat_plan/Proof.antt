@@ -3,7 +3,8 @@ use Prim.Native.Nat.{_+_}
 use mathlib.Core.Path.{_≡_, _∙_}
 use borrow.Author.Needs.{needs}
 use Rattle.free_table.specs.Table.{tableOf}
-use Rattle.growth.specs.Plans.{granting, repeatBase, choosingPlan, repeatPlan}
+use Rattle.growth_rules.specs.Parts.{repeatBase}
+use Rattle.growth.specs.Plans.{granting, choosingPlan, repeatPlan}
 use Rattle.growth.proofs.plans.repeat_plan.Statement.{statement}
 use Rattle.growth.proofs.plans.repeat_plan.Tie as tie
 

@@ -1,12 +1,21 @@
 -- The laws of answers.
 use Prim.Native.Nat.{ℕ, zero, suc}
-use mathlib.Core.Path.{_≡_, refl, sym, ap}
-use mathlib.Core.Bool.{true}
+use mathlib.Core.Path.{_≡_, refl, sym, ap, _∙_}
+use mathlib.Core.Bool.{Bool, true, false, not}
 use native.Mathlib.Omega.{arith}
+use borrow.Author.Tests.{not-true, not-false}
 use Rattle.lists.specs.Bools.{bool-cases}
 use Rattle.layout.specs.declared.Layout.{Layout}
 use Rattle.layout.specs.Rules.{valid}
 use Rattle.mapping.specs.Answers.{Answer, gives, refuses, answer, checked}
+
+-- A call asks first whether its layout is valid. By the answer t: the layout is not valid,
+pub invalid-by : (l : Layout) (t : Bool) → t ≡ valid l → not t ≡ true → valid l ≡ false
+invalid-by l t e h = sym e ∙ not-true t h
+
+-- or is.
+pub valid-by : (l : Layout) (t : Bool) → t ≡ valid l → not t ≡ false → valid l ≡ true
+valid-by l t e h = sym e ∙ not-false t h
 
 module _ {A : Type 0} where
   -- What an answer gives; a where it refuses.

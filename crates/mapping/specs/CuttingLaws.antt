@@ -1,12 +1,16 @@
 -- The laws of cutting that its code asks for: the pieces of a component by its flag, the numbers that the pieces of a
--- list of components are written as, and the answer and the lent numbers under the number of a refusal.
-use Prim.Native.Nat.{ℕ, zero, suc, _+_, _*_}
+-- list of components are written as, what refuses a request, and the answer and the lent numbers under the number of a
+-- refusal.
+use Prim.Native.Nat.{ℕ, zero, suc, _+_, _-_, _*_, _^_, _<_, _≤_}
 use mathlib.Core.Path.{_≡_, refl, sym, ap, _∙_}
 use mathlib.Core.List.{List, [], _∷_}
-use mathlib.Core.Bool.{Bool, true, false, cond}
+use mathlib.Core.Bool.{Bool, true, false, cond, _&&_}
 use native.Mathlib.Omega.{arith}
+use lib.Dec.{ltb}
 use lib.ListN.{length}
 use lib.Seq.{sets}
+use borrow.Author.Tests.{lt-ltb, le-ltb}
+use Rattle.lists.specs.Tests.{anyOf}
 use Rattle.lists.specs.Slices.{sets-append}
 use Rattle.layout.specs.declared.Component.{Component}
 use Rattle.layout.specs.Facts.{IsInit, Fields}
@@ -17,7 +21,7 @@ use Rattle.mapping.specs.Answers.{gives, refuses, answer}
 use Rattle.mapping.specs.AnswerLaws.{answer-refused}
 use Rattle.mapping.specs.Spans.{spansOf}
 use Rattle.mapping.specs.Cutting.{unitCount, partBegin, partEnd, partCount, partPieces, piecesOf, pieceCount}
-use Rattle.mapping.specs.Cutting.{refusalBy, allNumbers, roomAfter}
+use Rattle.mapping.specs.Cutting.{notInitAsked, tooMany, refusalBy, allNumbers, roomAfter}
 use Rattle.mapping.specs.Spans.{AllCuttable}
 use Rattle.mapping.specs.UnitLaws.{length-units, length-numbers, numbers-append}
 
@@ -56,6 +60,41 @@ module _ (a b : ℕ) (c : Span) where
       → sets room at (allNumbers (piecesOf a b (c ∷ xs)))
       ≡ sets (sets room at (allNumbers (partPieces a b c))) (at + 5 * partCount a b c) (allNumbers (piecesOf a b xs))
   pieces-next room at xs = rw (numbers-append, sets-append, length-part)
+
+-- What refuses a request of m bytes from offset a, into n lent numbers, is asked in this order.
+module _ (end a m n : ℕ) (xs : List Span) where
+  -- The test of 9: it is met,
+  abbrev past : Bool
+  past = ltb (2 ^ 64 - 1) (a + m)
+
+  pub refused-9 : 2 ^ 64 - 1 < a + m → 9 ≡ refusalBy end a m n xs
+  unfolding refusalBy
+  refused-9 h = let t : past ≡ true = lt-ltb (2 ^ 64 - 1) (a + m) h in rw t
+
+  -- or it is not, and then that of 10 is,
+  module _ (within : a + m ≤ 2 ^ 64 - 1) where
+    not-past : past ≡ false
+    not-past = le-ltb (2 ^ 64 - 1) (a + m) within
+
+    pub refused-10 : (ltb 0 m && ltb end (a + m)) ≡ true → 10 ≡ refusalBy end a m n xs
+    unfolding refusalBy
+    refused-10 t = rw (not-past, t)
+
+    -- or it is not, and then that of 11 is,
+    module _ (before : (ltb 0 m && ltb end (a + m)) ≡ false) where
+      pub refused-11 : anyOf (notInitAsked a (a + m)) xs ≡ true → 11 ≡ refusalBy end a m n xs
+      unfolding refusalBy
+      refused-11 t = rw (not-past, before, t)
+
+      -- or it is not, and then that of 12 is, by the number of pieces, or nothing refuses.
+      module _ (init : anyOf (notInitAsked a (a + m)) xs ≡ false) (pieces : ℕ) (counted : pieces ≡ pieceCount a (a + m) xs) where
+        pub refused-12 : tooMany n pieces ≡ true → 12 ≡ refusalBy end a m n xs
+        unfolding refusalBy
+        refused-12 t = rw (not-past, before, init, ← counted, t)
+
+        pub not-refused : tooMany n pieces ≡ false → 0 ≡ refusalBy end a m n xs
+        unfolding refusalBy
+        not-refused t = rw (not-past, before, init, ← counted, t)
 
 -- Under the number of a refusal all lent numbers stay.
 room-refused : (n : ℕ) (ps : List Piece) (room : List ℕ) → (n ≡ 0 → ⊥) → room ≡ roomAfter n ps room

@@ -4,14 +4,14 @@ use mathlib.Core.Path.{_≡_, refl, ap, sym, _∙_}
 use mathlib.Core.List.{List}
 use mathlib.Core.Bool.{Bool}
 use native.Mathlib.Omega.{arith}
-use lib.ListN.{length, getD}
+use lib.ListN.{getD}
 use Rattle.bytes_le.specs.Numbers.{u16At, u32At, u64At}
 use Rattle.bytes_le.specs.Flags.{isSet}
 use Rattle.layout.specs.Records.{noObject, countOf, recordsOf}
 use Rattle.layout.specs.Facts.{IsInit}
 use Rattle.page.specs.Form.{recordsAt}
 use Rattle.page.specs.Content.{objectAt, objectsAt, componentAt}
-use Rattle.in_place.specs.RecordLaws.{length-objects-at, component-count, component-records}
+use Rattle.in_place.specs.RecordLaws.{component-count, component-records}
 
 module _ (s : List ℕ) (at : ℕ) where
   pub init-at : componentAt s at .init ≡ isSet 0 (u16At s (at + 2))
@@ -33,10 +33,6 @@ module _ (s : List ℕ) (at : ℕ) where
   pub end-at : componentAt s at .end ≡ u64At s (at + 24)
   unfolding componentAt
   end-at = refl
-
--- A component at a place has as many object records as stand behind it, at most 16.
-pub records-length : (s : List ℕ) (at : ℕ) → length (recordsOf (componentAt s at)) ≡ min 16 (recordsAt s at)
-records-length s at = rw component-records (length-objects-at (min 16 (recordsAt s at)) s (at + 40))
 
 -- The object record at position i of the n from a place on.
 pub object-of : (n : ℕ) (s : List ℕ) (at i : ℕ) → i < n → getD (objectsAt n s at) i noObject ≡ objectAt s (at + 16 * i)

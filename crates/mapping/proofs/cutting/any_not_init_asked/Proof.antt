@@ -3,13 +3,9 @@
 use borrow.Author.Needs.{needs}
 use Rattle.mapping.proofs.cutting.any_not_init_asked.Statement.{statement}
 use Rattle.mapping.proofs.cutting.any_not_init_asked.Tie as tie
-use Rattle.mapping.proofs.cutting.any_not_init_asked.Reads as reads
-use Rattle.mapping.proofs.cutting.any_not_init_asked.Lts as lts
-use Rattle.mapping.proofs.cutting.not_init_asked.Reads as not-init-asked-reads
 use Prim.Native.Nat.{_+_, _≤_, _-_}
 use mathlib.Core.Path.{_≡_, refl, sym, _∙_}
-use mathlib.Core.List.{_∷_}
-use mathlib.Core.Bool.{true, false}
+use mathlib.Core.Bool.{Bool, true, false, _||_}
 use native.Mathlib.Omega.{arith}
 use lib.ListN.{getD, take}
 use lib.Seq.{slice}
@@ -28,30 +24,22 @@ abbrev μ-loop : tie.MeasureT-loop
 loop-holds : tie.Need-loop-holds Inv-loop μ-loop
 loop-holds c = (search needs, refl)
 
--- The components from i on are component i and those behind it.
-next : (c : tie.In-loop Inv-loop μ-loop) → let i = c .before .loop .i in let a = c .before .before .args in
-    slice i (a .n) (a .t1) ≡ getD (a .t1) i noSpan ∷ slice (i + 1) (a .n) (a .t1)
-next c =
+-- What is asked of the components from i on, by what is asked of component i.
+asked : (c : tie.In-loop Inv-loop μ-loop) (t : Bool) → let a = c .before .before .args in let i = c .before .loop .i in
+    t ≡ notInitAsked (a .offset) (a .stop) (getD (a .t1) i noSpan)
+    → anyOf (notInitAsked (a .offset) (a .stop)) (take (a .n) (a .t1))
+    ≡ (t || anyOf (notInitAsked (a .offset) (a .stop)) (slice (i + 1) (a .n) (a .t1)))
+asked c t e =
     let a = c .before .before .args in
-    slice-next (a .t1) (a .n) (c .before .loop .i) noSpan (c .loop-test .taken) (omega arith)
+    c .before .loop .inv .1
+    ∙ rw (slice-next (a .t1) (a .n) (c .before .loop .i) noSpan (c .loop-test .taken) (omega arith), ← e)
 
 returns : tie.Need-returns Inv-loop μ-loop
-returns c =
-    let turn = c .before .before .before in
-    let p = turn .before in
-    let a = p .before .args in
-    let asked : notInitAsked (a .offset) (a .stop) (getD (a .t1) (p .loop .i) noSpan) ≡ true
-    = sym (c .before .not-init-asked .ensures) ∙ c .if1 .taken in
-    sym (p .loop .inv .1 ∙ rw (next turn, asked))
+returns c = sym (asked (c .before .before .before) true (sym (c .if1 .taken) ∙ c .before .not-init-asked .ensures))
 
 loop-again : tie.Need-loop-again Inv-loop μ-loop
 loop-again c =
-    let turn = c .before .before .before in
-    let p = turn .before in
-    let a = p .before .args in
-    let asked : notInitAsked (a .offset) (a .stop) (getD (a .t1) (p .loop .i) noSpan) ≡ false
-    = sym (c .before .not-init-asked .ensures) ∙ c .if1 .left in
-    (omega arith, p .loop .inv .1 ∙ rw (next turn, asked))
+    (omega arith, asked (c .before .before .before) false (sym (c .if1 .left) ∙ c .before .not-init-asked .ensures))
 
 returns-2 : tie.Need-returns-2 Inv-loop μ-loop
 returns-2 c =
@@ -61,16 +49,5 @@ returns-2 c =
 
 pub any-not-init-asked-spec : {M : Type 1} → statement M
 any-not-init-asked-spec =
-    tie.close
-    (tie.spec
-    Inv-loop
-    μ-loop
-    loop-holds
-    (λ c. search needs)
-    (λ c. search needs)
-    (λ c κs. search needs)
-    returns
-    (λ c. search needs)
-    (λ c. search needs)
-    loop-again
-    returns-2)
+    tie.close (tie.spec Inv-loop μ-loop loop-holds (λ c. search needs) (λ c. search needs) (λ c κs. search needs)
+    returns (λ c. search needs) (λ c. search needs) loop-again returns-2)

@@ -54,5 +54,5 @@ returns-2 c =
 
 pub cut-spans-spec : {M : Type 1} → statement M
 cut-spans-spec =
-    tie.close
-    (tie.spec (λ c κs. search needs) returns add-put-pieces put-pieces-requires (λ c. search needs) returns-2)
+    tie.close (tie.spec (λ c κs. search needs) returns add-put-pieces put-pieces-requires (λ c. search needs)
+    returns-2)

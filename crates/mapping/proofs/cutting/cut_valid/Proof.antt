@@ -2,9 +2,6 @@
 use borrow.Author.Needs.{needs}
 use Rattle.mapping.proofs.cutting.cut_valid.Statement.{statement}
 use Rattle.mapping.proofs.cutting.cut_valid.Tie as tie
-use Rattle.mapping.proofs.cutting.cut_valid.Reads as reads
-use Rattle.mapping.proofs.cutting.cut_valid.Lts as lts
-use Rattle.mapping.proofs.cutting.cut_spans.Reads as cut-spans-reads
 use Prim.Native.Nat.{ℕ, _-_, _≤_}
 use mathlib.Core.Path.{_≡_, refl, sym, ap, _∙_}
 use native.Mathlib.Omega.{arith}
@@ -82,21 +79,6 @@ returns c =
 
 pub cut-valid-spec : {M : Type 1} → statement M
 cut-valid-spec =
-    tie.close
-    (tie.spec
-    Inv-loop
-    μ-loop
-    loop-holds
-    (λ c. search needs)
-    (λ c. search needs)
-    (λ c. search needs)
-    (λ c. search needs)
-    (λ c. search needs)
-    (λ c. search needs)
-    loop-again
-    sub-last
-    (λ c. search needs)
-    element-copy-out-last
-    cut-spans-requires
-    (λ c. search needs)
-    returns)
+    tie.close (tie.spec Inv-loop μ-loop loop-holds (λ c. search needs) (λ c. search needs) (λ c. search needs)
+    (λ c. search needs) (λ c. search needs) (λ c. search needs) loop-again sub-last (λ c. search needs)
+    element-copy-out-last cut-spans-requires (λ c. search needs) returns)

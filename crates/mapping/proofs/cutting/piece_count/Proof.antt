@@ -3,9 +3,6 @@
 use borrow.Author.Needs.{needs}
 use Rattle.mapping.proofs.cutting.piece_count.Statement.{statement}
 use Rattle.mapping.proofs.cutting.piece_count.Tie as tie
-use Rattle.mapping.proofs.cutting.piece_count.Reads as reads
-use Rattle.mapping.proofs.cutting.piece_count.Lts as lts
-use Rattle.mapping.proofs.cutting.part_count.Reads as part-count-reads
 use Prim.Native.Nat.{_+_, _*_, _^_, _≤_, _-_}
 use mathlib.Core.Path.{_≡_, sym, ap, _∙_}
 use mathlib.Core.List.{List, _∷_}
@@ -33,8 +30,9 @@ abbrev μ-loop : tie.MeasureT-loop
 loop-holds : tie.Need-loop-holds Inv-loop μ-loop
 loop-holds c = (search needs, c .pre .0, search needs, c .pre .1, sym (zero-add _))
 
--- The components from i on are component i and those behind it.
-next : (c : tie.In-loop Inv-loop μ-loop) → let i = c .before .loop .i in let a = c .before .before .args in
+-- The components from i on are component i and those after it.
+next : (c : tie.In-loop Inv-loop μ-loop) → let i = c .before .loop .i in
+    let a = c .before .before .args in
     slice i (a .n) (a .t1) ≡ getD (a .t1) i noSpan ∷ slice (i + 1) (a .n) (a .t1)
 next c =
     let a = c .before .before .args in
@@ -76,16 +74,5 @@ returns c =
 
 pub piece-count-spec : {M : Type 1} → statement M
 piece-count-spec =
-    tie.close
-    (tie.spec
-    Inv-loop
-    μ-loop
-    loop-holds
-    (λ c. search needs)
-    (λ c. search needs)
-    part-count-requires
-    add-pieces
-    (λ c. search needs)
-    (λ c. search needs)
-    loop-again
-    returns)
+    tie.close (tie.spec Inv-loop μ-loop loop-holds (λ c. search needs) (λ c. search needs) part-count-requires
+    add-pieces (λ c. search needs) (λ c. search needs) loop-again returns)

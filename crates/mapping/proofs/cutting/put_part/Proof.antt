@@ -57,12 +57,5 @@ returns-3 c =
 
 pub put-part-spec : {M : Type 1} → statement M
 put-part-spec =
-    tie.close
-    (tie.spec
-    returns
-    (λ c κs. search needs)
-    (λ c κs. search needs)
-    returns-2
-    put-units-requires
-    (λ c. search needs)
-    returns-3)
+    tie.close (tie.spec returns (λ c κs. search needs) (λ c κs. search needs) returns-2 put-units-requires
+    (λ c. search needs) returns-3)

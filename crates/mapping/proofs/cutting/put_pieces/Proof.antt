@@ -3,9 +3,6 @@
 use borrow.Author.Needs.{needs}
 use Rattle.mapping.proofs.cutting.put_pieces.Statement.{statement}
 use Rattle.mapping.proofs.cutting.put_pieces.Tie as tie
-use Rattle.mapping.proofs.cutting.put_pieces.Reads as reads
-use Rattle.mapping.proofs.cutting.put_pieces.Lts as lts
-use Rattle.mapping.proofs.cutting.put_part.Reads as put-part-reads
 use Prim.Native.Nat.{_+_, _*_, _≤_, _-_}
 use mathlib.Core.Path.{_≡_, refl, sym, _∙_}
 use mathlib.Core.List.{_∷_}
@@ -88,16 +85,5 @@ returns c =
 
 pub put-pieces-spec : {M : Type 1} → statement M
 put-pieces-spec =
-    tie.close
-    (tie.spec
-    Inv-loop
-    μ-loop
-    loop-holds
-    (λ c. search needs)
-    (λ c. search needs)
-    put-part-requires
-    (λ c. search needs)
-    (λ c. search needs)
-    loop-again
-    (λ c. search needs)
-    returns)
+    tie.close (tie.spec Inv-loop μ-loop loop-holds (λ c. search needs) (λ c. search needs) put-part-requires
+    (λ c. search needs) (λ c. search needs) loop-again (λ c. search needs) returns)

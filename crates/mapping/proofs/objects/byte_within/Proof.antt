@@ -50,5 +50,5 @@ returns-4 c =
 
 pub byte-within-spec : {M : Type 1} → statement M
 byte-within-spec =
-    tie.close (tie.spec (λ c κs. search needs) (λ c. search needs) (λ c. search needs)
-    returns returns-2 returns-3 returns-4)
+    tie.close (tie.spec (λ c κs. search needs) (λ c. search needs) (λ c. search needs) returns returns-2 returns-3
+    returns-4)

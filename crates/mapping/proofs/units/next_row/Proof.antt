@@ -1,15 +1,10 @@
 -- `mapping::units::next_row` meets its contract: the code tests for the last stripe as the contract does.
-use Prim.Native.Nat.{_+_}
 use borrow.Author.Needs.{needs}
 use borrow.Author.Tests.{eq-eqb, ne-eqb}
 use Rattle.mapping.proofs.units.next_row.Statement.{statement}
 use Rattle.mapping.proofs.units.next_row.Tie as tie
 
-returns : tie.Need-returns
-returns c = let a = c .before .args in rw (eq-eqb (a .stripe + 1) (a .s) (c .if1 .taken))
-
-returns-2 : tie.Need-returns-2
-returns-2 c = let a = c .before .args in rw (ne-eqb (a .stripe + 1) (a .s) (c .if1 .left))
-
 pub next-row-spec : {M : Type 1} → statement M
-next-row-spec = tie.close (tie.spec (λ c. search needs) (λ c. search needs) returns returns-2)
+next-row-spec =
+    tie.close (tie.spec (λ c. search needs) (λ c. search needs) (λ c. rw (eq-eqb _ _ (c .if1 .taken)))
+    (λ c. rw (ne-eqb _ _ (c .if1 .left))))

@@ -91,28 +91,7 @@ returns c =
 
 pub put-units-spec : {M : Type 1} → statement M
 put-units-spec =
-    tie.close
-    (tie.spec
-    Inv-loop
-    μ-loop
-    (λ c. search needs)
-    (λ c. search needs)
-    (λ c. search needs)
-    mul-row
-    (λ c. search needs)
-    add-byte
-    sub-left
-    loop-holds
-    (λ c. search needs)
-    put-piece-requires
-    (λ c. search needs)
-    (λ c. search needs)
-    next-row-requires
-    next-stripe-requires
-    loop-less
-    loop-again
-    (λ c. search needs)
-    put-piece-requires-2
-    (λ c. search needs)
-    same-length
-    returns)
+    tie.close (tie.spec Inv-loop μ-loop (λ c. search needs) (λ c. search needs) (λ c. search needs) mul-row
+    (λ c. search needs) add-byte sub-left loop-holds (λ c. search needs) put-piece-requires (λ c. search needs)
+    (λ c. search needs) next-row-requires next-stripe-requires loop-less loop-again (λ c. search needs)
+    put-piece-requires-2 (λ c. search needs) same-length returns)

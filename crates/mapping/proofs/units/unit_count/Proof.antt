@@ -47,15 +47,5 @@ sub-if2 c =
 
 pub unit-count-spec : {M : Type 1} → statement M
 unit-count-spec =
-    tie.close
-    (tie.spec
-    returns
-    (λ c. search needs)
-    (λ c. search needs)
-    (λ c. search needs)
-    sub-if2
-    returns-2
-    add-result
-    (λ c. search needs)
-    add-result-2
-    returns-3)
+    tie.close (tie.spec returns (λ c. search needs) (λ c. search needs) (λ c. search needs) sub-if2 returns-2
+    add-result (λ c. search needs) add-result-2 returns-3)

@@ -76,18 +76,6 @@ returns c =
 
 pub asked-of-spec : {M : Type 1} → statement M
 asked-of-spec =
-    tie.close
-    (tie.spec
-    Inv-loop
-    μ-loop
-    loop-holds
-    (λ c. search needs)
-    (λ c. search needs)
-    (λ c κs. within (c .before))
-    (λ c κs. search needs)
-    part-count-requires
-    add-pieces
-    (λ c. search needs)
-    (λ c. search needs)
-    loop-again
-    returns)
+    tie.close (tie.spec Inv-loop μ-loop loop-holds (λ c. search needs) (λ c. search needs)
+    (λ c κs. within (c .before)) (λ c κs. search needs) part-count-requires add-pieces (λ c. search needs)
+    (λ c. search needs) loop-again returns)

@@ -59,5 +59,5 @@ returns-2 c =
 
 pub cut-spec : {M : Type 1} → statement M
 cut-spec =
-    tie.close
-    (tie.spec (λ c κs. search needs) returns add-put-pieces put-pieces-requires (λ c. search needs) returns-2)
+    tie.close (tie.spec (λ c κs. search needs) returns add-put-pieces put-pieces-requires (λ c. search needs)
+    returns-2)

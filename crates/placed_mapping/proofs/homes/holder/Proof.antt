@@ -1,23 +1,23 @@
 -- `placed_mapping::homes::holder` meets its contract: the component that holds a byte is the first that ends above it.
 use Prim.Native.Nat.{_+_, _≤_, _-_}
 use mathlib.Core.Path.{_≡_, sym, _∙_}
-use mathlib.Core.List.{_∷_}
 use mathlib.Core.Bool.{false}
 use native.Mathlib.Omega.{arith}
-use native.Mathlib.Nat.{zero-add, add-zero}
+use native.Mathlib.Nat.{zero-add}
+use lib.Dec.{ltb}
 use lib.ListN.{length, getD, take}
 use lib.Seq.{slice}
 use denote.Ref.{now}
 use borrow.Author.Needs.{needs}
 use borrow.Author.Tests.{lt-ltb, le-ltb}
+use Rattle.layout.specs.declared.Component.{Component}
 use Rattle.layout.specs.Holder.{holderOf}
 use Rattle.layout.specs.HolderLaws.{endsAbove, holder-ends}
 use Rattle.page.specs.Form.{behind}
-use Rattle.page.specs.Content.{componentAt}
 use Rattle.in_place.specs.Places.{componentsAt}
-use Rattle.in_place.specs.SliceLaws.{components-done}
 use Rattle.placed_mapping.specs.FieldLaws.{end-at}
-use Rattle.placed_mapping.specs.ValidLaws.{valid-keeps, valid-next}
+use Rattle.placed_mapping.specs.ValidLaws.{valid-keeps}
+use Rattle.placed_mapping.proofs.Turns.{first-here, first-later, first-none}
 use Rattle.placed_mapping.proofs.homes.holder.Statement.{statement}
 use Rattle.placed_mapping.proofs.homes.holder.Tie as tie
 
@@ -45,65 +45,39 @@ within : (c : tie.In-loop Inv-loop μ-loop) → let a = c .before .before .befor
     behind (now (a .s)) (getD (now (a .places)) (c .before .loop .i) 0) ≤ length (now (a .s))
 within c = c .before .before .before .pre .0 .2 (c .before .loop .i) (c .loop-test .taken)
 
--- The components from place i on are the one there and those behind it.
-next : (c : tie.In-loop Inv-loop μ-loop) → let a = c .before .before .before .args in let i = c .before .loop .i in
-    componentsAt (now (a .s)) (slice i (a .n) (now (a .places)))
-    ≡ componentAt (now (a .s)) (getD (now (a .places)) i 0)
-    ∷ componentsAt (now (a .s)) (slice (i + 1) (a .n) (now (a .places)))
-next c =
-    let s = c .before .before .before in
-    let a = s .args in
-    valid-next (now (a .s)) (now (a .places)) (a .n) (s .pre .0) (s .pre .1) (c .before .loop .i) (c .loop-test .taken)
-
-add-u64-at : tie.Need-add-u64-at Inv-loop μ-loop
-add-u64-at c = omega (arith, within (c .before))
-
-u64-at-requires : tie.Need-u64-at-requires Inv-loop μ-loop
-u64-at-requires c κs = omega (arith, within (c .before))
-
--- The number that was read is the end of the component at place i.
-end-read : (c : tie.After-u64-at Inv-loop μ-loop) → let p = c .before .before .before in
-    let a = p .before .before .args in
-    componentAt (now (a .s)) (getD (now (a .places)) (p .loop .i) 0) .end ≡ c .u64-at .result
-end-read c =
-    let p = c .before .before .before in
-    let a = p .before .before .args in
-    end-at (now (a .s)) (getD (now (a .places)) (p .loop .i) 0) ∙ sym (c .u64-at .ensures)
-
 returns : tie.Need-returns Inv-loop μ-loop
 returns c =
     let turn = c .before .before .before in
-    let a = turn .before .before .before .args in
-    let above = lt-ltb (a .offset) (c .before .u64-at .result) (omega arith) in
-    (sym (turn .before .loop .inv .1 ∙ rw (next turn, end-read (c .before), above) (add-zero _)), omega arith)
+    let s = turn .before .before .before in
+    let a = s .args in (
+      first-here (now (a .s)) (now (a .places)) (a .n) (s .pre .0) (s .pre .1) (λ (x : Component). ltb (a .offset) (x .end))
+          _ _ (turn .before .loop .inv .1) (turn .loop-test .taken)
+          (rw (end-at, ← c .before .u64-at .ensures) (lt-ltb _ _ (c .if1 .taken))),
+      omega arith,
+    )
 
 loop-again : tie.Need-loop-again Inv-loop μ-loop
 loop-again c =
     let turn = c .before .before .before in
-    let a = turn .before .before .before .args in
-    let not-above = le-ltb (a .offset) (c .before .u64-at .result) (omega arith) in
-    (omega arith, turn .before .loop .inv .1 ∙ rw (next turn, end-read (c .before), not-above) (omega arith))
+    let s = turn .before .before .before in
+    let a = s .args in (
+      omega arith,
+      first-later (now (a .s)) (now (a .places)) (a .n) (s .pre .0) (s .pre .1) (λ (x : Component). ltb (a .offset) (x .end))
+          _ _ (turn .before .loop .inv .1) (turn .loop-test .taken)
+          (rw (end-at, ← c .before .u64-at .ensures) (le-ltb _ _ (c .if1 .left))),
+    )
 
 returns-2 : tie.Need-returns-2 Inv-loop μ-loop
 returns-2 c =
-    let p = c .before in
-    let a = p .before .before .args in
-    let done = components-done (now (a .s)) (now (a .places)) (a .n) (p .loop .i) (c .loop-test .left) in
-    (sym (p .loop .inv .1 ∙ rw done (add-zero _)), omega arith)
+    let s = c .before .before .before in
+    let a = s .args in (
+      first-none (now (a .s)) (now (a .places)) (a .n) (s .pre .0) (s .pre .1) (λ (x : Component). ltb (a .offset) (x .end))
+          _ _ (c .before .loop .inv .1) (c .loop-test .left),
+      omega arith,
+    )
 
 pub holder-spec : {M : Type 1} → statement M
 holder-spec =
-    tie.close
-    (tie.spec
-    Inv-loop
-    μ-loop
-    loop-holds
-    (λ c. search needs)
-    (λ c. search needs)
-    add-u64-at
-    u64-at-requires
-    returns
-    (λ c. search needs)
-    (λ c. search needs)
-    loop-again
-    returns-2)
+    tie.close (tie.spec Inv-loop μ-loop loop-holds (λ c. search needs) (λ c. search needs)
+    (λ c. omega (arith, within (c .before))) (λ c κs. omega (arith, within (c .before))) returns (λ c. search needs)
+    (λ c. search needs) loop-again returns-2)

@@ -58,17 +58,6 @@ returns c =
 
 pub home-at-spec : {M : Type 1} → statement M
 home-at-spec =
-    tie.close
-    (tie.spec
-    (λ c. search needs)
-    (λ c κs. search needs)
-    (λ c. search needs)
-    (λ c κs. search needs)
-    stripe-of-requires
-    object-byte-requires
-    (λ c. search needs)
-    (λ c. search needs)
-    (λ c. search needs)
-    (λ c. search needs)
-    object-at-requires
-    returns)
+    tie.close (tie.spec (λ c. search needs) (λ c κs. search needs) (λ c. search needs) (λ c κs. search needs)
+    stripe-of-requires object-byte-requires (λ c. search needs) (λ c. search needs) (λ c. search needs)
+    (λ c. search needs) object-at-requires returns)

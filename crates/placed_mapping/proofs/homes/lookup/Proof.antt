@@ -89,15 +89,5 @@ returns-3 c =
 
 pub lookup-spec : {M : Type 1} → statement M
 lookup-spec =
-    tie.close
-    (tie.spec
-    (λ c κs. search needs)
-    returns
-    (λ c. search needs)
-    (λ c. search needs)
-    add-u16-at
-    u16-at-requires
-    (λ c κs. search needs)
-    returns-2
-    home-at-requires
-    returns-3)
+    tie.close (tie.spec (λ c κs. search needs) returns (λ c. search needs) (λ c. search needs) add-u16-at
+    u16-at-requires (λ c κs. search needs) returns-2 home-at-requires returns-3)

@@ -40,5 +40,5 @@ returns-2 c =
 
 pub back-spec : {M : Type 1} → statement M
 back-spec =
-    tie.close
-    (tie.spec (λ c κs. search needs) returns (λ c. search needs) (λ c. search needs) byte-at-requires returns-2)
+    tie.close (tie.spec (λ c κs. search needs) returns (λ c. search needs) (λ c. search needs) byte-at-requires
+    returns-2)

@@ -2,9 +2,9 @@
 -- place i on.
 use Prim.Native.Nat.{_+_, _≤_, _-_}
 use mathlib.Core.Path.{_≡_, sym, _∙_}
-use mathlib.Core.List.{_∷_}
+use mathlib.Core.Bool.{Bool}
 use native.Mathlib.Omega.{arith}
-use native.Mathlib.Nat.{zero-add, add-zero}
+use native.Mathlib.Nat.{zero-add}
 use lib.Dec.{ltb}
 use lib.ListN.{length, getD, take}
 use lib.Seq.{slice}
@@ -12,17 +12,17 @@ use denote.Ref.{now}
 use borrow.Author.Needs.{needs}
 use borrow.Author.Tests.{lt-ltb, le-ltb}
 use Rattle.lists.specs.Counting.{elem}
+use Rattle.layout.specs.declared.Component.{Component}
 use Rattle.layout.specs.Records.{recordsOf}
 use Rattle.layout.specs.Rows.{objectOf}
 use Rattle.layout.specs.Distinct.{sameObject}
 use Rattle.page.specs.Form.{behind}
 use Rattle.page.specs.Content.{componentAt}
 use Rattle.in_place.specs.Places.{componentsAt}
+use Rattle.in_place.specs.RecordLaws.{records-length}
 use Rattle.mapping.specs.Back.{ownerOf}
 use Rattle.mapping.specs.BackLaws.{position-elem}
-use Rattle.in_place.specs.SliceLaws.{components-done}
-use Rattle.placed_mapping.specs.FieldLaws.{records-length}
-use Rattle.placed_mapping.specs.ValidLaws.{valid-next}
+use Rattle.placed_mapping.proofs.Turns.{first-here, first-later, first-none}
 use Rattle.placed_mapping.proofs.objects.owner.Statement.{statement}
 use Rattle.placed_mapping.proofs.objects.owner.Tie as tie
 
@@ -38,21 +38,6 @@ abbrev μ-loop : tie.MeasureT-loop
 loop-holds : tie.Need-loop-holds Inv-loop μ-loop
 loop-holds c = (search needs, sym (zero-add _))
 
--- The component at place i ends by the end of the bytes.
-within : (c : tie.In-loop Inv-loop μ-loop) → let a = c .before .before .before .args in
-    behind (now (a .s)) (getD (now (a .places)) (c .before .loop .i) 0) ≤ length (now (a .s))
-within c = c .before .before .before .pre .0 .2 (c .before .loop .i) (c .loop-test .taken)
-
--- The components from place i on are the one there and those behind it.
-next : (c : tie.In-loop Inv-loop μ-loop) → let a = c .before .before .before .args in let i = c .before .loop .i in
-    componentsAt (now (a .s)) (slice i (a .n) (now (a .places)))
-    ≡ componentAt (now (a .s)) (getD (now (a .places)) i 0)
-    ∷ componentsAt (now (a .s)) (slice (i + 1) (a .n) (now (a .places)))
-next c =
-    let s = c .before .before .before in
-    let a = s .args in
-    valid-next (now (a .s)) (now (a .places)) (a .n) (s .pre .0) (s .pre .1) (c .before .loop .i) (c .loop-test .taken)
-
 -- The component at place i has the object exactly if its position is below the number of object records.
 has : (c : tie.After-record-count Inv-loop μ-loop) → let p = c .before .before .before .before in
     let a = p .before .before .args in
@@ -66,38 +51,46 @@ has c =
     position-elem (objectOf (a .target) (a .number)) (recordsOf (componentAt (now (a .s)) at))
     ∙ rw (← c .before .position-at .ensures .0, records-length, ← c .record-count .ensures .0)
 
+-- The test of a component.
+abbrev owns : tie.Start Inv-loop μ-loop → Component → Bool
+owns c x = elem sameObject (objectOf (c .args .target) (c .args .number)) (recordsOf x)
+
 returns : tie.Need-returns Inv-loop μ-loop
 returns c =
     let turn = c .before .before .before .before in
-    let below = lt-ltb (c .before .before .position-at .result) (c .before .record-count .result) (omega arith) in
-    (sym (turn .before .loop .inv .1 ∙ rw (next turn, has (c .before) ∙ below) (add-zero _)), omega arith)
+    let s = turn .before .before .before in
+    let a = s .args in (
+      first-here (now (a .s)) (now (a .places)) (a .n) (s .pre .0) (s .pre .1) (owns s) _ _ (turn .before .loop .inv .1)
+          (turn .loop-test .taken) (has (c .before) ∙ lt-ltb _ _ (c .if1 .taken)),
+      omega arith,
+    )
 
 loop-again : tie.Need-loop-again Inv-loop μ-loop
 loop-again c =
     let turn = c .before .before .before .before in
-    let not-below = le-ltb (c .before .before .position-at .result) (c .before .record-count .result) (omega arith) in
-    (omega arith, turn .before .loop .inv .1 ∙ rw (next turn, has (c .before) ∙ not-below) (omega arith))
+    let s = turn .before .before .before in
+    let a = s .args in (
+      omega arith,
+      first-later (now (a .s)) (now (a .places)) (a .n) (s .pre .0) (s .pre .1) (owns s) _ _ (turn .before .loop .inv .1)
+          (turn .loop-test .taken) (has (c .before) ∙ le-ltb _ _ (c .if1 .left)),
+    )
 
 returns-2 : tie.Need-returns-2 Inv-loop μ-loop
 returns-2 c =
-    let p = c .before in
-    let a = p .before .before .args in
-    let done = components-done (now (a .s)) (now (a .places)) (a .n) (p .loop .i) (c .loop-test .left) in
-    (sym (p .loop .inv .1 ∙ rw done (add-zero _)), omega arith)
+    let s = c .before .before .before in
+    let a = s .args in (
+      first-none (now (a .s)) (now (a .places)) (a .n) (s .pre .0) (s .pre .1) (owns s) _ _ (c .before .loop .inv .1)
+          (c .loop-test .left),
+      omega arith,
+    )
+
+-- The component at place i ends by the end of the bytes.
+within : (c : tie.In-loop Inv-loop μ-loop) → let a = c .before .before .before .args in
+    behind (now (a .s)) (getD (now (a .places)) (c .before .loop .i) 0) ≤ length (now (a .s))
+within c = c .before .before .before .pre .0 .2 (c .before .loop .i) (c .loop-test .taken)
 
 pub owner-spec : {M : Type 1} → statement M
 owner-spec =
-    tie.close
-    (tie.spec
-    Inv-loop
-    μ-loop
-    loop-holds
-    (λ c. search needs)
-    (λ c. search needs)
-    (λ c κs. within (c .before))
-    (λ c κs. within (c .before .before))
-    returns
-    (λ c. search needs)
-    (λ c. search needs)
-    loop-again
-    returns-2)
+    tie.close (tie.spec Inv-loop μ-loop loop-holds (λ c. search needs) (λ c. search needs)
+    (λ c κs. within (c .before)) (λ c κs. within (c .before .before)) returns (λ c. search needs) (λ c. search needs)
+    loop-again returns-2)

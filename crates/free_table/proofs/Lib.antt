@@ -1,2 +1,3 @@
 pub mod OneRecord
 pub mod Prefixes
+pub mod Turns

@@ -31,7 +31,14 @@ pub struct Choice {
     pub objects: [Object; 16],
 }
 
-// What stands in the unused places of a choice.
+// What is in the unused places of a table.
+pub const NO_RECORD: TargetRecord = TargetRecord {
+    target: 0,
+    free: 0,
+    next: 0,
+};
+
+// What is in the unused places of a choice.
 const NO_OBJECT: Object = Object {
     target: 0,
     number: 0,

@@ -1,4 +1,5 @@
 // A free table that is lent as a list of target records: what of it growth sees, and what comes back to it.
+use free_table::NO_RECORD;
 use free_table::Table;
 use free_table::TargetRecord;
 ghost use mathlib.Core.Path.{_≡_};
@@ -6,13 +7,6 @@ ghost use Prim.Native.Nat.{_<_, _≤_};
 ghost use lib.ListN.{length, getD};
 ghost use Rattle.free_table.specs.Table.{noRecord, tableOf};
 ghost use Rattle.moorsickle.specs.LentTable.{placesOf, emptyTable, withRecord, loadedOf, withNexts};
-
-// What stands in the unused places of a table.
-const NO_RECORD: TargetRecord = TargetRecord {
-    target: 0,
-    free: 0,
-    next: 0,
-};
 
 // How many of n records have a place in a table.
 fn places_of(n: usize) -> usize

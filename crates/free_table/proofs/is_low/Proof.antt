@@ -1,14 +1,14 @@
 -- `free_table::is_low` meets its contract: the target is low in the table exactly if it is low in the records from i on.
-use Prim.Native.Nat.{_+_, _≤_, _-_}
+use Prim.Native.Nat.{_≤_, _-_}
 use mathlib.Core.Path.{_≡_, refl, sym, _∙_}
-use mathlib.Core.List.{_∷_}
 use native.Mathlib.Omega.{arith}
-use lib.ListN.{length, getD, take}
+use lib.ListN.{take}
 use lib.Seq.{slice}
 use borrow.Author.Tests.{eq-eqb, ne-eqb}
 use borrow.Author.Needs.{needs}
-use Rattle.lists.specs.Slices.{unmapped, slice-next, slice-done}
-use Rattle.free_table.specs.Table.{noRecord, isLow}
+use Rattle.lists.specs.Slices.{unmapped, slice-done}
+use Rattle.free_table.specs.Table.{isLow}
+use Rattle.free_table.proofs.Turns.{Turn, turn}
 use Rattle.free_table.proofs.is_low.Statement.{statement}
 use Rattle.free_table.proofs.is_low.Tie as tie
 
@@ -22,15 +22,12 @@ abbrev μ-loop : tie.MeasureT-loop
 loop-holds : tie.Need-loop-holds Inv-loop μ-loop
 loop-holds c = (search needs, refl)
 
--- The records from i on are record i and those behind it.
-next : (c : tie.In-loop Inv-loop μ-loop) → let i = c .before .loop .i in
-    let t = c .before .before .args .t1 in
-    slice i (t .count) (t .records) ≡ getD (t .records) i noRecord ∷ slice (i + 1) (t .count) (t .records)
+-- The records from i on are record i and those after it.
+next : (c : tie.In-loop Inv-loop μ-loop) → Turn (c .before .before .args .t1) (c .before .loop .i)
 next c =
     let s = c .before .before in
-    let rs = s .args .t1 .records in
-    let h : length rs ≡ 65 = unmapped rs _ (s .good .0 .1 .1 .1 .0 .1 .0 .1) in
-    slice-next rs (s .args .t1 .count) (c .before .loop .i) noRecord (c .loop-test .taken) (omega arith)
+    turn (s .args .t1) (c .before .loop .i) (s .pre) (unmapped (s .args .t1 .records) _ (s .good .0 .1 .1 .1 .0 .1 .0 .1))
+    (c .loop-test .taken)
 
 returns : tie.Need-returns Inv-loop μ-loop
 returns c =
@@ -50,5 +47,5 @@ returns-2 c =
 
 pub is-low-spec : {M : Type 1} → statement M
 is-low-spec =
-    tie.close (tie.spec Inv-loop μ-loop loop-holds (λ c. search needs) (λ c. search needs) (λ c κs. search needs) returns
-    (λ c. search needs) (λ c. search needs) loop-again returns-2)
+    tie.close (tie.spec Inv-loop μ-loop loop-holds (λ c. search needs) (λ c. search needs) (λ c κs. search needs)
+    returns (λ c. search needs) (λ c. search needs) loop-again returns-2)

@@ -11,7 +11,7 @@ use Rattle.round_trip.specs.RunsOfPages.{backToBack}
 use Rattle.mapping.specs.Answers.{Answer, gives, refuses}
 use Rattle.free_table.specs.declared.TargetRecord.{TargetRecord}
 use Rattle.growth_rules.specs.Growing.{Effect, Outcome, growOf}
-use Rattle.gateway.specs.Host.{hostReading, hostLayout, under, lentAfter}
+use Rattle.gateway.specs.Host.{hostLayout, readingFirst, lentAfter}
 
 -- What one or two words that make no whole record stand for: a record whose target is above 65,534, so that the table is bad.
 abbrev pub cutRecord : TargetRecord
@@ -56,7 +56,7 @@ laterNumber (gives e) n = n
 unfoldable pub growNumber : List ℕ → ℕ → ℕ → List ℕ → ℕ → ℕ
 growNumber pages offset mark words room =
     let o = hostGrown pages offset mark words in
-    under (hostReading pages) (laterNumber (o .answer) (roomNumber (o .layout) room))
+    readingFirst pages (laterNumber (o .answer) (roomNumber (o .layout) room))
 
 -- 1 where the answer says that the offset now has a home, else 0.
 abbrev pub homeNumber : Answer Effect → ℕ

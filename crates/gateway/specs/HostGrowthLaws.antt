@@ -15,7 +15,6 @@ use Rattle.layout.specs.declared.Layout.{Layout}
 use Rattle.layout.specs.Records.{view}
 use Rattle.layout.specs.Rules.{valid}
 use Rattle.layout.specs.Holder.{lastEnd}
-use Rattle.collector.specs.Runs.{readRun, hostCut}
 use Rattle.mapping.specs.Answers.{Answer, gives, refuses}
 use Rattle.mapping.specs.AnswerLaws.{gives-or-refuses}
 use Rattle.free_table.specs.declared.TargetRecord.{TargetRecord}
@@ -28,7 +27,7 @@ use Rattle.growth_rules.specs.CallLaws.{Changes, call-table, refusal-number}
 use Rattle.growth.specs.declared.Grown.{Grown}
 use Rattle.growth.specs.Answers.{callOf, GrownSays}
 use Rattle.gateway.specs.Host.{hostReading, lentAfter}
-use Rattle.gateway.specs.HostLaws.{under-read, under-refused}
+use Rattle.gateway.specs.HostLaws.{own-number}
 use Rattle.gateway.specs.HostGrowth.{wordTable, withNextWords, hostGrown, pagesOf, roomNumber, laterNumber, growNumber}
 use Rattle.gateway.specs.HostGrowth.{homeNumber, tableAfter, grownAfter, answerAfter}
 use Rattle.gateway.specs.LentWords.{loadedWords, StepSays}
@@ -139,18 +138,11 @@ module _ (s : List ℕ) (offset mark : ℕ) (ws bs ns : List ℕ) where
   refused-by zero e h = absurd (omega arith)
   refused-by (suc n) e h = rw e (refl, refl, refl, refl)
 
-  -- It is refused by the number of the reading,
-  pub reading-refused : (n : ℕ) → readRun hostCut s .refusal ≡ n → 0 < n → Stated n ws bs ns
-  unfolding growNumber
-  reading-refused n e h =
-      let own = laterNumber (out .answer) (roomNumber (out .layout) (length bs)) in
-      refused-by n (sym (under-refused (hostReading s) own (λ z. omega arith)) ∙ e) h
-
-  -- or, where the reading gives a layout,
-  module _ (read : readRun hostCut s .refusal ≡ 0) where
+  -- If the reading gives a layout, it is refused
+  module _ (read : hostReading s .refusal ≡ 0) where
     number-read : number ≡ laterNumber (out .answer) (roomNumber (out .layout) (length bs))
     unfolding growNumber
-    number-read = under-read (hostReading s) (laterNumber (out .answer) (roomNumber (out .layout) (length bs))) read
+    number-read = own-number s (laterNumber (out .answer) (roomNumber (out .layout) (length bs))) read
 
     -- by that of growth;
     pub growth-refused : (n : ℕ) → laterNumber (out .answer) 0 ≡ n → 0 < n → Stated n ws bs ns
@@ -162,7 +154,7 @@ module _ (s : List ℕ) (offset mark : ℕ) (ws bs ns : List ℕ) where
     accepted-by (gives d) e z = (d, e)
     accepted-by (refuses n) e z =
         let k : Call = record { offset = offset; mark = mark; table = wordTable ws } in
-        absurd (omega (arith, refused-some (readRun hostCut s .layout) k n e))
+        absurd (omega (arith, refused-some (hostReading s .layout) k n e))
 
     pub growth-accepted : laterNumber (out .answer) 0 ≡ 0 → (d : Effect) × (out .answer ≡ gives d)
     growth-accepted z = accepted-by (out .answer) refl z

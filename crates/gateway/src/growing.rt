@@ -1,4 +1,5 @@
 // Growth for the host: pages back to back in and out, the free table as words.
+use free_table::NO_RECORD;
 use free_table::Table;
 use free_table::TargetRecord;
 use growth::GrowOut;
@@ -20,13 +21,6 @@ ghost use Rattle.gateway.specs.HostGrowth.{wordTable, withNextWords, hos
 ghost use Rattle.gateway.specs.HostGrowth.{laterNumber, growNumber, homeNumber};
 ghost use Rattle.gateway.specs.HostGrowth.{tableAfter, grownAfter, answerAfter};
 ghost use Rattle.gateway.specs.LentWords.{heldRecord, recordAt, loadedWords, writtenLength, pageIf, StepSays};
-
-// What stands in the unused places of a table.
-const NO_RECORD: TargetRecord = TargetRecord {
-    target: 0,
-    free: 0,
-    next: 0,
-};
 
 // What stands for words that make no whole record: its target makes the table bad.
 const CUT_RECORD: TargetRecord = TargetRecord {

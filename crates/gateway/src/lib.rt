@@ -28,9 +28,8 @@ mod lent;
 //  11 the byte lies in a component that is not init.
 #[no_mangle]
 pub extern "C" fn moorsickle_lookup(pages: &[u8], offset: u64, home: &mut [u64; 3]) -> u32
-    ensures { λ r. ⌜ (let s = now (pages .entry) in
-        (r ≡ lookupNumber s offset)
-        × (now (home .exit) ≡ homeAfter s offset (now (home .entry)))) ⌝ }
+    ensures { λ r. ⌜ (r ≡ lookupNumber (now (pages .entry)) offset)
+        × (now (home .exit) ≡ homeAfter (now (pages .entry)) offset (now (home .entry))) ⌝ }
 {
     let mut places = [0usize; 16];
     let read = placed_run::read(pages, &mut places);
@@ -53,10 +52,10 @@ pub extern "C" fn moorsickle_back(
     byte: u64,
     offset: &mut u64,
 ) -> u32
-    ensures { λ r. ⌜ (let s = now (pages .entry) in
+    ensures { λ r. ⌜ (let bytes = now (pages .entry) in
         let home = inObject (objectOf target number) byte in
-        (r ≡ backNumber s home)
-        × (now (offset .exit) ≡ offsetAfter s home (now (offset .entry)))) ⌝ }
+        (r ≡ backNumber bytes home)
+        × (now (offset .exit) ≡ offsetAfter bytes home (now (offset .entry)))) ⌝ }
 {
     let mut places = [0usize; 16];
     let read = placed_run::read(pages, &mut places);
@@ -83,11 +82,11 @@ pub extern "C" fn moorsickle_cut(
     room: &mut [u64],
     count: &mut u64,
 ) -> u32
-    ensures { λ r. ⌜ (let s = now (pages .entry) in
+    ensures { λ r. ⌜ (let bytes = now (pages .entry) in
         let lent = now (room .entry) in
-        (r ≡ cutNumber s offset length lent)
-        × (now (room .exit) ≡ piecesAfter s offset length lent)
-        × (now (count .exit) ≡ countAfter s offset length lent (now (count .entry)))) ⌝ }
+        (r ≡ cutNumber bytes offset length lent)
+        × (now (room .exit) ≡ piecesAfter bytes offset length lent)
+        × (now (count .exit) ≡ countAfter bytes offset length lent (now (count .entry)))) ⌝ }
 {
     let mut places = [0usize; 16];
     let read = placed_run::read(pages, &mut places);
@@ -110,11 +109,11 @@ pub extern "C" fn moorsickle_page(
     buffer: &mut [u8],
     written: &mut u64,
 ) -> u32
-    ensures { λ r. ⌜ (let s = now (pages .entry) in
+    ensures { λ r. ⌜ (let bytes = now (pages .entry) in
         let lent = now (buffer .entry) in
-        (r ≡ pageNumber s number lent)
-        × (now (buffer .exit) ≡ bufferAfter s number lent)
-        × (now (written .exit) ≡ writtenAfter s number lent (now (written .entry)))) ⌝ }
+        (r ≡ pageNumber bytes number lent)
+        × (now (buffer .exit) ≡ bufferAfter bytes number lent)
+        × (now (written .exit) ≡ writtenAfter bytes number lent (now (written .entry)))) ⌝ }
 {
     let mut places = [0usize; 16];
     let read = placed_run::read(pages, &mut places);

@@ -2,42 +2,38 @@
 -- components at the places found, and their number is stored.
 use mathlib.Core.Path.{_≡_, _∙_}
 use native.Mathlib.Omega.{arith}
+use lib.ListN.{length}
 use denote.Ref.{now}
 use borrow.Author.Needs.{needs}
-use Rattle.mapping.specs.Cutting.{cutCount}
-use Rattle.gateway.specs.Host.{hostComponents, cutNumber, countAfter}
-use Rattle.gateway.specs.HostLaws.{cut-refused, cut-read, room-read}
-use Rattle.gateway.specs.FoundLaws.{found-refused, found-read, found-components}
+use Rattle.mapping.specs.Cutting.{cutRefusal, cutCount, cutPieces, cutIn}
+use Rattle.gateway.specs.Host.{cutNumber, piecesAfter, countAfter}
+use Rattle.gateway.specs.HostLaws.{room-lent}
+use Rattle.gateway.specs.FoundLaws.{found-refused, found-own, found-components, found-answer}
 use Rattle.gateway.proofs.moorsickle_cut.Statement.{statement}
 use Rattle.gateway.proofs.moorsickle_cut.Tie as tie
 
 returns : tie.Need-returns
+unfolding cutNumber piecesAfter countAfter
 returns c =
-    let r = c .before .before .before .read in
-    let a = c .before .before .before .before .before .before .before .args in
-    rw (r .ensures .refusal)
-    (cut-refused (now (a .pages)) (found-refused (now (a .pages)) (r .result) _ (r .ensures) (λ z. omega arith))
-    (a .offset) (a .length) (now (a .room)) (now (a .count)))
+    let f = found-refused (c .before .before .before .read .ensures) (λ z. omega arith) in
+    (f .number _, f .lent _ _ _, f .lent _ _ _)
 
 cut-requires : tie.Need-cut-requires
-cut-requires c κs = let r = c .before .before .before .before .read in (r .ensures .valid-at (omega arith), r .ensures .room)
+cut-requires c κs = let f = c .before .before .before .before .read .ensures in (f .valid-at (omega arith), f .room)
 
 returns-2 : tie.Need-returns-2
-unfolding countAfter
+unfolding cutNumber piecesAfter countAfter cutIn
 returns-2 c =
     let w = c .before .before .before .before in
-    let r = w .before .before .before .before .before .read in
-    let a = w .before .before .before .before .before .before .before .before .before .args in
-    let s = now (a .pages) in
+    let read = w .before .before .before .before .before in
+    let a = read .before .before .before .before .args in
     let room = now (a .room) in
-    let z : r .result .refusal ≡ 0 = omega arith in
-    let read = found-read s (r .result) _ (r .ensures) z in
-    let done = rw (← found-components s (r .result) _ (r .ensures) z) at (w .cut .ensures) in
-    let stored = c .put-count .ensures (cutNumber s (a .offset) (a .length) room)
-    (cutCount (a .offset) (a .length) (hostComponents s))
-    (done .0 ∙ cut-read s read (a .offset) (a .length) room) in (
+    let z : read .read .result .refusal ≡ 0 = omega arith in
+    let stored = c .put-count .ensures _ _
+    (found-answer (read .read .ensures) z (cutRefusal (a .offset) (a .length) (length room))
+    (cutCount (a .offset) (a .length)) (w .cut .ensures .0)) in (
       stored .0,
-      room-read s read (a .offset) (a .length) room _ (done .1),
+      rw (found-own (read .read .ensures) z, found-components (read .read .ensures) z) (w .cut .ensures .1 ∙ room-lent _ _ room),
       stored .1,
     )
 

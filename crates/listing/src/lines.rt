@@ -8,8 +8,21 @@ ghost use Prim.Native.Nat.{_+_, _*_, _≤_};
 ghost use lib.ListN.{length};
 ghost use lib.Seq.{sets};
 ghost use Rattle.layout.specs.Records.{view};
-ghost use Rattle.listing.specs.Listing.{line, sizeIn, headLine, stripingWords, stateWords, componentLine};
+ghost use Rattle.listing.specs.Listing.{decimal, line, sizeIn, headLine, stripingWords, stateWords, componentLine};
 ghost use Rattle.listing.specs.Listing.{componentLines, refusedLine};
+
+// Writes a line of four words from the first byte on, a text and a number and again, and tells where it ends.
+fn put_pairs(out: &mut [u8], name: &[u8], m: u64, other: &[u8], n: u64) -> usize
+    requires { ⌜ (length (now name) ≤ 50) × (length (now other) ≤ 50) × (144 ≤ length (now out)) ⌝ }
+    ensures { λ r. ⌜ (let words = now (name .entry) ∷ decimal m ∷ now (other .entry) ∷ decimal n ∷ [] in
+        (r ≡ length (line words)) × (now (out .exit) ≡ sets (now (out .entry)) 0 (line words))) ⌝ }
+    ensures { λ r. ⌜ r ≤ 144 ⌝ }
+{
+    let a = words::put_text(out, 0, name, b' ');
+    let b = words::put_number(out, a, m, b' ');
+    let c = words::put_text(out, b, other, b' ');
+    words::put_number(out, c, n, b'\n')
+}
 
 // Writes the first line of a layout's listing, and tells where it ends.
 pub(crate) fn put_head(out: &mut [u8], generation: u32, count: usize) -> usize
@@ -18,10 +31,13 @@ pub(crate) fn put_head(out: &mut [u8], generation: u32, count: usize) -> usize
         × (now (out .exit) ≡ sets (now (out .entry)) 0 (headLine generation count)) ⌝ }
     ensures { λ r. ⌜ r ≤ 144 ⌝ }
 {
-    let a = words::put_text(out, 0, b"layout", b' ');
-    let b = words::put_number(out, a, generation as u64, b' ');
-    let c = words::put_text(out, b, b"components", b' ');
-    words::put_number(out, c, count as u64, b'\n')
+    put_pairs(
+        out,
+        b"layout",
+        generation as u64,
+        b"components",
+        count as u64,
+    )
 }
 
 // Writes the line of a refusal, and tells where it ends.
@@ -31,10 +47,7 @@ pub(crate) fn put_refused(out: &mut [u8], number: u8, page: usize) -> usize
         × (now (out .exit) ≡ sets (now (out .entry)) 0 (refusedLine number page)) ⌝ }
     ensures { λ r. ⌜ r ≤ 144 ⌝ }
 {
-    let a = words::put_text(out, 0, b"refused", b' ');
-    let b = words::put_number(out, a, number as u64, b' ');
-    let c = words::put_text(out, b, b"page", b' ');
-    words::put_number(out, c, page as u64, b'\n')
+    put_pairs(out, b"refused", number as u64, b"page", page as u64)
 }
 
 // The size that a component's line has: of an extension, its extension size.

@@ -38,6 +38,7 @@ pub(crate) fn put_text(out: &mut [u8], at: usize, text: &[u8], behind: u8) -> us
     requires { ⌜ at + length (now text) + 1 ≤ length (now out) ⌝ }
     ensures { λ r. ⌜ (r ≡ at + length (now (text .entry) ++ (behind ∷ [])))
         × (now (out .exit) ≡ sets (now (out .entry)) at (now (text .entry) ++ (behind ∷ []))) ⌝ }
+    ensures { λ r. ⌜ r ≡ at + length (now (text .entry)) + 1 ⌝ }
 {
     let n = text.len();
     let mut i: usize = 0;

@@ -12,7 +12,7 @@ returns c =
     let call = c .before .before in
     let test = call .before .before .before in
     rw (eq-eqb (test .before .before .args .end) 18446744073709551615 (test .if1 .taken))
-    (call .put-text .ensures, omega arith)
+    (call .put-text .ensures .0, omega arith)
 
 returns-2 : tie.Need-returns-2
 unfolding endWord

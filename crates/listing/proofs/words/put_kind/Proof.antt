@@ -9,21 +9,21 @@ returns : tie.Need-returns
 unfolding kindWord
 returns c =
     let call = c .before .before in
-    rw (call .before .before .before .if1 .taken) (call .put-text .ensures, omega arith)
+    rw (call .before .before .before .if1 .taken) (call .put-text .ensures .0, omega arith)
 
 returns-2 : tie.Need-returns-2
 unfolding kindWord
 returns-2 c =
     let call = c .before .before in
     let test = call .before .before .before in
-    rw (test .before .if1 .left, test .if2 .taken) (call .put-text2 .ensures, omega arith)
+    rw (test .before .if1 .left, test .if2 .taken) (call .put-text2 .ensures .0, omega arith)
 
 returns-3 : tie.Need-returns-3
 unfolding kindWord
 returns-3 c =
     let call = c .before .before in
     let test = call .before .before .before in
-    rw (test .before .if1 .left, test .if2 .left) (call .put-text3 .ensures, omega arith)
+    rw (test .before .if1 .left, test .if2 .left) (call .put-text3 .ensures .0, omega arith)
 
 pub put-kind-spec : {M : Type 1} → statement M
 put-kind-spec =

@@ -43,8 +43,9 @@ returns c =
     let a = p .before .args in
     let text = now (a .text) in
     let done = slice-done text (length text) (p .loop .i) (c .loop-test .left) in
-    byte-behind (now (a .out)) (p .loop .out) text (a .at) (a .at + length text) (a .behind)
-    (refl, sym (rw done at (p .loop .inv .2)))
+    let wrote = byte-behind (now (a .out)) (p .loop .out) text (a .at) (a .at + length text) (a .behind)
+    (refl, sym (rw done at (p .loop .inv .2))) in
+    (wrote, refl)
 
 pub put-text-spec : {M : Type 1} → statement M
 put-text-spec =

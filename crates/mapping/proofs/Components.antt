@@ -14,6 +14,6 @@ use Rattle.layout.proofs.Unread.{unread}
 abbrev pub readAt : Layout → ℕ → Component
 readAt l i = getD (l .components) i unread
 
--- Where its init flag is set, it is an init component.
+-- If its init flag is set, it is an init component.
 pub component-init : (l : Layout) → Valid l → (i : ℕ) → i < l .count → readAt l i .init ≡ true → IsInit (readAt l i)
 component-init l v i h e = kind-init (component-kind l v unread i h) e

@@ -20,7 +20,7 @@ use Rattle.layout.specs.ArrayLaws.{component-at}
 use Rattle.layout.proofs.Unread.{unread}
 use Rattle.mapping.proofs.Components.{readAt}
 
--- The home of byte b by an init component: its object record stands in the array at the byte's stripe.
+-- The home of byte b by an init component: its object record is in the array at the byte's stripe.
 pub home-in-array : (c : Component) → IsInit c → (b i p : ℕ)
     → i ≡ stripeOf (c .«stripe_size») (c .«stripe_count») b
     → i < c .«stripe_count»
@@ -40,7 +40,7 @@ module _ (l : Layout) (v : Valid l) (b i : ℕ) (at : i ≡ holderOf b (view l))
     below : holderOf b (view l) < length (view l)
     below = omega (arith, v .whole)
 
-    -- The component that holds byte b stands at place i of the array.
+    -- The component that holds byte b is at place i of the array.
     held : holder b (view l) ≡ readAt l i
     held = rw (← at) (component-at l v unread i h)
 

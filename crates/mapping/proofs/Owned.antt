@@ -33,7 +33,7 @@ module _ (z s i p : ℕ) where
       (omega arith, omega (arith, ltb-true (fileByte z s i p) (2 ^ 64) t)))
       (λ t e. absurd (Option·none-ne-some b e))
 
-  -- Where none is given, the file byte is not below 2^64.
+  -- If none is given, the file byte is not below 2^64.
   pub below-none : fileByteBelow z s i p ≡ none → 2 ^ 64 ≤ fileByte z s i p
   unfolding fileByteBelow
   below-none =
@@ -66,7 +66,7 @@ module _ (l : Layout) (v : Valid l) (o : Object) (p i : ℕ) (at : i ≡ ownerOf
     below : ownerOf o (view l) < length (view l)
     below = omega (arith, v .whole)
 
-    -- The component of the object stands at place i of the array.
+    -- The component of the object is at place i of the array.
     owner-read : owner o (view l) ≡ readAt l i
     owner-read = rw (← at) (component-at l v unread i h)
 

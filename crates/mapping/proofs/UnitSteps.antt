@@ -32,7 +32,7 @@ pub known-by : {z s a left stripe row byte : ℕ} → left ≡ z - a % z → str
 unfolding unitOf stripeOf objectByte
 known-by l t r b = record { left-is = l; stripe-is = t; row-is = r; byte-is = omega (arith, r, b) }
 
--- Of the first byte of a unit: the unit still has all its bytes, and begins in the object where that byte stands.
+-- Of the first byte of a unit: the unit still has all its bytes, and begins in the object where that byte is.
 known-first : {z s a stripe row : ℕ} → a % z ≡ 0 → stripe ≡ stripeOf z s a → row ≡ objectByte z s a
     → Known z s a z stripe row row
 unfolding objectByte

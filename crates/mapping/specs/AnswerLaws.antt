@@ -18,12 +18,12 @@ pub valid-by : (l : Layout) (t : Bool) → t ≡ valid l → not t ≡ false →
 valid-by l t e h = sym e ∙ not-false t h
 
 module _ {A : Type 0} where
-  -- What an answer gives; a where it refuses.
+  -- What an answer gives; a if it refuses.
   abbrev givenOr : A → Answer A → A
   givenOr a (gives x) = x
   givenOr a (refuses n) = a
 
-  -- The number of a refusal; n where the answer gives something.
+  -- The number of a refusal; n if the answer gives something.
   abbrev numberOr : ℕ → Answer A → ℕ
   numberOr n (gives x) = n
   numberOr n (refuses m) = m
@@ -32,7 +32,7 @@ module _ {A : Type 0} where
   pub gives-or-refuses : (x : A) (n : ℕ) → gives x ≡ refuses n → ⊥
   gives-or-refuses x n e = let m : suc n ≡ n = ap (numberOr (suc n)) e in omega arith
 
-  -- An answer that gives something stands under 0.
+  -- An answer that gives something has the number 0.
   pub answer-gives : (n : ℕ) (a x : A) → answer n a ≡ gives x → (n ≡ 0) × (a ≡ x)
   answer-gives zero a x e = (refl, ap (givenOr a) e)
   answer-gives (suc n) a x e = absurd (gives-or-refuses x (suc n) (sym e))
@@ -46,7 +46,7 @@ module _ {A : Type 0} where
   pub checked-valid : (l : Layout) (n : ℕ) (a : A) → valid l ≡ true → answer (checked l n) a ≡ answer n a
   checked-valid l n a v = rw v
 
-  -- Where something is given, the layout is valid.
+  -- If something is given, the layout is valid.
   pub checked-gives : (l : Layout) (n : ℕ) (a x : A) → answer (checked l n) a ≡ gives x
       → (valid l ≡ true) × (answer n a ≡ gives x)
   checked-gives l n a x e =

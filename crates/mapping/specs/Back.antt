@@ -1,4 +1,4 @@
--- Back, from a home to its file byte (1, 13, 14). What stands in quotes is document 01's.
+-- Back, from a home to its file byte (1, 13, 14). What is in quotes is document 01's.
 use Prim.Native.Nat.{ℕ, _^_}
 use mathlib.Core.List.{List}
 use mathlib.Core.Bool.{cond, _&&_}
@@ -17,12 +17,12 @@ use Rattle.mapping.specs.declared.BackOut.the-variants.{At, Refused}
 use Rattle.mapping.specs.Answers.{Answer, gives, refuses, answer, checked}
 use Rattle.mapping.specs.Homes.{Home, inObject}
 
--- The position of the first object record that names the object, from 0; the number of records where none does.
+-- The position of the first object record that names the object, from 0; the number of records if none does.
 abbrev pub positionIn : Object → List Object → ℕ
 positionIn o os = firstThat (sameObject o) os
 
 -- The position of the first component with an object record that names the object, from 0; the number of components
--- where there is none.
+-- if there is none.
 abbrev pub ownerOf : Object → List Component → ℕ
 ownerOf o cs = firstThat (λ (c : Component). elem sameObject o (recordsOf c)) cs
 
@@ -54,7 +54,7 @@ byteOf (inObject o p) cs = fileByteIn (owner o cs) o p
 unfoldable pub backIn : Home → List Component → Answer ℕ
 backIn h cs = answer (backRefusal h cs) (byteOf h cs)
 
--- The same of any layout, 1 where it is not valid.
+-- The same of any layout, 1 if it is not valid.
 unfoldable pub backOf : Home → Layout → Answer ℕ
 backOf h l = answer (checked l (backRefusal h (view l))) (byteOf h (view l))
 

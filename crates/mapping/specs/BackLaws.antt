@@ -60,7 +60,7 @@ pub owner-has : (o : Object) (cs : List Component) → ownerOf o cs < length cs
     → elem sameObject o (recordsOf (owner o cs)) ≡ true
 owner-has o cs h = first-passes (has o) cs noComponent h
 
--- Where the object of the record at a place stands there once, its position is that place.
+-- If the object of the record at a place is there once, its position is that place.
 position-at : (os : List Object) (i : ℕ) → i < length os → count sameObject (getD os i noObject) os ≤ 1
     → positionIn (getD os i noObject) os ≡ i
 position-at os i h once =
@@ -70,7 +70,7 @@ position-at os i h once =
     let below = ltb-true j (length os) (sym (position-elem o os) ∙ stands) in
     sym (count-once sameObject same-object-refl os i j noObject h below once (sym (position-names o os below)))
 
--- The object records of a component stand among those of the layout.
+-- The object records of a component are among those of the layout.
 records-counted : (o : Object) (cs : List Component) (i : ℕ) → i < length cs
     → count sameObject o (recordsOf (getD cs i noComponent)) ≤ count sameObject o (recordsIn cs)
 records-counted o [] i h = absurd (omega arith)
@@ -78,7 +78,7 @@ records-counted o (c ∷ cs) zero h = omega (arith, count-append sameObject o (r
 records-counted o (c ∷ cs) (suc i) h =
     omega (arith, count-append sameObject o (recordsOf c) (recordsIn cs), records-counted o cs i (omega arith))
 
--- Where the layout names an object once, the component with a record that names it is the object's component.
+-- If the layout names an object once, the component with a record that names it is the object's component.
 owner-at : (o : Object) (cs : List Component) → count sameObject o (recordsIn cs) ≤ 1 → (i : ℕ) → i < length cs
     → elem sameObject o (recordsOf (getD cs i noComponent)) ≡ true → ownerOf o cs ≡ i
 owner-at o [] once i h e = absurd (omega arith)
@@ -103,13 +103,13 @@ module _ (c : Component) (k : IsInit c) where
       let stripes : 0 < c .«stripe_count» = omega (arith, k .striped .some) in
       omega (arith, k .records, striping.stripe-below (c .«stripe_size») (c .«stripe_count») b stripes)
 
-  -- So the object of its home stands among the component's records.
+  -- So the object of its home is among the component's records.
   object-stands : (b : ℕ) → elem sameObject (objectFor c b) (recordsOf c) ≡ true
   object-stands b =
       let i = stripeOf (c .«stripe_size») (c .«stripe_count») b in
       elem-at sameObject same-object-refl (recordsOf c) i noObject (stripe-stands b)
 
-  -- Back from the home of a byte is that byte, where its object stands among the component's records once.
+  -- Back from the home of a byte is that byte, if its object is among the component's records once.
   back-in : (b : ℕ) → count sameObject (objectFor c b) (recordsOf c) ≤ 1
       → fileByteIn c (objectFor c b) (objectByte (c .«stripe_size») (c .«stripe_count») b) ≡ b
   unfolding fileByteIn
@@ -135,7 +135,7 @@ not-hiddenRefusal begin end b e =
     bool-cases (within && ltb b (2 ^ 64)) (λ q. both-true within (ltb b (2 ^ 64)) q .0)
     (λ q. absurd (omega (arith, rw q at e)))
 
--- Where the way back is not refused, the object stands in the layout, and the file byte in the object's component.
+-- If the way back is not refused, the object is in the layout, and the file byte in the object's component.
 not-refused : (o : Object) (p : ℕ) (cs : List Component) → backRefusal (inObject o p) cs ≡ 0
     → (ownerOf o cs < length cs) × (holds (owner o cs) (fileByteIn (owner o cs) o p) ≡ true)
 unfolding backRefusal
@@ -184,7 +184,7 @@ module _ {more : Bool} {cs : List Component} (k : Keeps more cs) where
       let accepted : backRefusal h cs ≡ 0 = rw (← r .read-as) (back-at b (r .position) (r .below) (r .init-at) .1 l) in
       rw (accepted, byte-of-home b h e)
 
-  -- Where the way back is refused, no byte below 2^64 has the home.
+  -- If the way back is refused, no byte below 2^64 has the home.
   pub no-byte : (h : Home) (n : ℕ) → backIn h cs ≡ refuses n → (b : ℕ) → b < 2 ^ 64 → homeOf b cs ≡ some h → ⊥
   no-byte h n r b l e = gives-or-refuses b n (sym (back-of-home b h l e) ∙ r)
 

@@ -29,7 +29,7 @@ Tiles a b (p ∷ ps) = (p .offset ≡ a) × (0 < p .length) × Tiles (a + p .len
 abbrev pub Uncut : List Component → Piece → Type 0
 Uncut cs p = (q : ℕ) → p .offset < q → q < p .offset + p .length → cutPlace cs q ≡ false
 
--- The object record of stripe i of the component with an id; none where there is no such component or stripe.
+-- The object record of stripe i of the component with an id; none if there is no such component or stripe.
 abbrev pub stripeObject : List Component → ℕ → ℕ → Option Object
 stripeObject [] id i = none
 stripeObject (c ∷ cs) id i = cond (eqb id (c .id)) (getElem? (recordsOf c) i) (stripeObject cs id i)

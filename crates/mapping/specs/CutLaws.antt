@@ -1,4 +1,4 @@
--- The pieces of a request in components that stand end to end: they tile the request, and each is a piece of one of
+-- The pieces of a request in components that are end to end: they tile the request, and each is a piece of one of
 -- the components. So no cut place lies strictly inside a piece, a piece ends at a cut place or where the request ends,
 -- and its bytes have the homes that it tells.
 use Prim.Native.Nat.{ℕ, zero, suc, _+_, _-_, _*_, _/_, _%_, _≤_, _<_}
@@ -40,7 +40,7 @@ abbrev pub PieceIn : ℕ → List Component → Piece → Type 0
 PieceIn b [] p = ⊥
 PieceIn b (c ∷ cs) p = PieceOf b c p ⊎ PieceIn b cs p
 
--- The pieces in components that stand end to end from `at` on, where the request is not refused: they tile what is not
+-- The pieces in components that are end to end from `at` on, if the request is not refused: they tile what is not
 -- yet cut of it there.
 pieces-from : (a b at : ℕ) (may : Bool) (cs : List Component) → Linked false at may cs → Fields cs
     → anyOf (notInitAsked a b) (spansOf cs) ≡ false → cutTo a b (after endOf at (neighboursOf cs)) ≡ b
@@ -125,7 +125,7 @@ record-at [] i h = absurd (omega arith)
 record-at (o ∷ os) zero h = refl
 record-at (o ∷ os) (suc i) h = record-at os i (omega arith)
 
--- Components that stand end to end from `at` on do not cut the file before `at`.
+-- Components that are end to end from `at` on do not cut the file before `at`.
 none-before : (at : ℕ) (may : Bool) (cs : List Component) → Linked false at may cs → Fields cs
     → (q : ℕ) → q < at → cutPlace cs q ≡ false
 unfolding cutPlace
@@ -137,7 +137,7 @@ none-before at may (c ∷ cs) k f q h =
 
 -- A piece of one of the components.
 module _ (b : ℕ) (p : Piece) where
-  -- It begins at or after `at`, where the components stand end to end from there on.
+  -- It begins at or after `at`, if the components are end to end from there on.
   begins-after : (at : ℕ) (may : Bool) (cs : List Component) → Linked false at may cs → Fields cs
       → PieceIn b cs p → at ≤ p .offset
   begins-after at may [] k f h = absurd h
@@ -176,7 +176,7 @@ module _ (b : ℕ) (p : Piece) where
       let o = begins-after (c .end) (not (c .extension)) cs (k .3) (f .2) h in
       rw (no-cut-after q c (f .1) (omega arith)) (uncut-from (c .end) (not (c .extension)) cs (k .3) (f .2) h q l r)
 
-  -- Its bytes have the homes that it tells, where no id stands twice.
+  -- Its bytes have the homes that it tells, if no id is there twice.
   home-from : (at : ℕ) (may : Bool) (cs : List Component) → Linked false at may cs → Fields cs
       → ((i : ℕ) → count eqb i (idsOf cs) ≤ 1) → PieceIn b cs p → AtHome cs p
   unfolding homeOf

@@ -1,4 +1,4 @@
--- The places at which a file is cut, said by themselves and not by pieces. What stands in quotes is document 01's.
+-- The places at which a file is cut, said by themselves and not by pieces. What is in quotes is document 01's.
 use Prim.Native.Nat.{ℕ, zero, suc, _+_, _%_}
 use mathlib.Core.List.{List}
 use mathlib.Core.Bool.{Bool, _&&_, _||_}

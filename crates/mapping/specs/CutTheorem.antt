@@ -1,5 +1,5 @@
 -- The theorem of cutting: the pieces of a request that is accepted are the request, cut at exactly the cut places, and
--- tell the homes of its bytes. What stands in quotes is document 01's.
+-- tell the homes of its bytes. What is in quotes is document 01's.
 use Prim.Native.Nat.{ℕ, zero, suc, _+_, _-_, _/_, _^_, _<_}
 use mathlib.Core.Path.{_≡_, refl, sym, ap, _∙_}
 use mathlib.Core.List.{List, [], _∷_}
@@ -80,7 +80,7 @@ module _ (cs : List Component) (k : Keeps false cs) where
         at-home = each-map (PieceIn b cs) (AtHome cs) (home-in cs k b) ps (r .1);
       }
 
--- The theorem: where a request is accepted with the answer k, there are k pieces, "the number of different cut places
+-- The theorem: if a request is accepted with the answer k, there are k pieces, "the number of different cut places
 -- strictly inside the request plus one, or 0 for length 0"; they "stand in file order and together are the request"; no
 -- component border and no multiple of the component's stripe size lies strictly inside one; and each tells the homes of
 -- its bytes.

@@ -1,4 +1,4 @@
--- A request cut into pieces (1, 9 to 12). What stands in quotes is document 01's.
+-- A request cut into pieces (1, 9 to 12). What is in quotes is document 01's.
 use Prim.Native.Nat.{ℕ, zero, suc, _+_, _-_, _*_, _/_, _^_, min, max}
 use mathlib.Core.List.{List, [], _∷_, _++_}
 use mathlib.Core.Bool.{Bool, not, cond, _&&_, _||_}
@@ -51,7 +51,7 @@ partEnd b c = min b (c .end)
 abbrev pub touches : ℕ → ℕ → Span → Bool
 touches a b c = ltb (partBegin a c) (partEnd b c)
 
--- The number of pieces of the request from a to b in one component: one for each unit where it is init, else none.
+-- The number of pieces of the request from a to b in one component: one for each unit if it is init, else none.
 abbrev pub partCount : ℕ → ℕ → Span → ℕ
 partCount a b c = cond (c .init) (unitCount (c .«stripe_size») (partBegin a c) (partEnd b c)) 0
 
@@ -106,7 +106,7 @@ cutCount a m cs = pieceCount a (a + m) (spansOf cs)
 unfoldable pub cutIn : ℕ → ℕ → ℕ → List Component → Answer ℕ
 cutIn a m n cs = answer (cutRefusal a m n cs) (cutCount a m cs)
 
--- The same of any layout, 1 where it is not valid.
+-- The same of any layout, 1 if it is not valid.
 unfoldable pub cutOf : ℕ → ℕ → ℕ → Layout → Answer ℕ
 cutOf a m n l = answer (checked l (cutRefusal a m n (view l))) (cutCount a m (view l))
 

@@ -47,7 +47,7 @@ module _ (a b : ℕ) (c : Span) where
   pub part-init : c .init ≡ true → unitCount (c .«stripe_size») (partBegin a c) (partEnd b c) ≡ partCount a b c
   part-init e = sym (ap countBy e)
 
-  -- Where it has no pieces, nothing is written.
+  -- If it has no pieces, nothing is written.
   pub part-none : (room : List ℕ) (at : ℕ) → partCount a b c ≡ 0 → room ≡ sets room at (allNumbers (partPieces a b c))
   part-none room at e = rw e
 
@@ -55,7 +55,7 @@ module _ (a b : ℕ) (c : Span) where
   length-part : length (allNumbers (partPieces a b c)) ≡ 5 * partCount a b c
   length-part = length-numbers (partPieces a b c) ∙ rw length-units
 
-  -- The pieces of a list of components are written one component behind the other.
+  -- The pieces of a list of components are written one component after the other.
   pub pieces-next : (room : List ℕ) (at : ℕ) (xs : List Span)
       → sets room at (allNumbers (piecesOf a b (c ∷ xs)))
       ≡ sets (sets room at (allNumbers (partPieces a b c))) (at + 5 * partCount a b c) (allNumbers (piecesOf a b xs))
@@ -88,13 +88,9 @@ module _ (end a m n : ℕ) (xs : List Span) where
 
       -- or it is not, and then that of 12 is, by the number of pieces, or nothing refuses.
       module _ (init : anyOf (notInitAsked a (a + m)) xs ≡ false) (pieces : ℕ) (counted : pieces ≡ pieceCount a (a + m) xs) where
-        pub refused-12 : tooMany n pieces ≡ true → 12 ≡ refusalBy end a m n xs
+        pub refused-12 : (t : Bool) → tooMany n pieces ≡ t → cond t 12 0 ≡ refusalBy end a m n xs
         unfolding refusalBy
-        refused-12 t = rw (not-past, before, init, ← counted, t)
-
-        pub not-refused : tooMany n pieces ≡ false → 0 ≡ refusalBy end a m n xs
-        unfolding refusalBy
-        not-refused t = rw (not-past, before, init, ← counted, t)
+        refused-12 t e = rw (not-past, before, init, ← counted, e)
 
 -- Under the number of a refusal all lent numbers stay.
 room-refused : (n : ℕ) (ps : List Piece) (room : List ℕ) → (n ≡ 0 → ⊥) → room ≡ roomAfter n ps room

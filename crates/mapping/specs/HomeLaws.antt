@@ -1,4 +1,4 @@
--- The laws of homes and of lookup. What stands in quotes is document 01's.
+-- The laws of homes and of lookup. What is in quotes is document 01's.
 use Prim.Native.Nat.{ℕ, suc, _≤_, _<_}
 use mathlib.Core.Path.{_≡_, refl, sym, ap, _∙_}
 use mathlib.Core.List.{List, [], _∷_}
@@ -59,18 +59,18 @@ pub home-position : (b : ℕ) (cs : List Component) (h : Home) → homeOf b cs �
 unfolding homeOf
 home-position b cs h e = reading-position homeIn b cs h e
 
--- What is given, where something is.
-given : {A : Type 0} (o : Option A) → isGiven o ≡ true → (a : A) × (o ≡ some a)
+-- What is given, if something is.
+pub given : {A : Type 0} (o : Option A) → isGiven o ≡ true → (a : A) × (o ≡ some a)
 given none e = absurd (false≢true e)
 given (some a) e = (a, refl)
 
--- The component that holds byte b, where there is one.
+-- The component that holds byte b, if there is one.
 abbrev pub holder : ℕ → List Component → Component
 holder b cs = getD cs (holderOf b cs) noComponent
 
 -- The components keep the rules.
 module _ {more : Bool} {cs : List Component} (k : Keeps more cs) (b : ℕ) where
-  -- A component that passes a test and holds the byte stands at the position of the byte's component.
+  -- A component that passes a test and holds the byte is at the position of the byte's component.
   held-once : (i : ℕ) → i < length cs → (t : Bool) → (t && holds (getD cs i noComponent) b) ≡ true → i ≡ holderOf b cs
   held-once i h t e =
       at-most-one more 0 false cs (k .linked) (k .fields) b i h (both-true t (holds (getD cs i noComponent) b) e .1)
@@ -113,24 +113,24 @@ module _ {more : Bool} {cs : List Component} (k : Keeps more cs) (b : ℕ) where
       let held = ltb-true (holderOf b cs) (length cs) (held-below ∙ lt-ltb b (lastEnd cs) h) in
       any-held (λ (c : Component). not (c .init)) held ∙ ap not (sym (any-held (λ (c : Component). c .init) held))
 
-  -- Where no component holds the byte, lookup refuses by 10.
+  -- If no component holds the byte, lookup refuses by 10.
   pub lookup-none : length cs ≤ holderOf b cs → lookupIn b cs ≡ refuses 10
   unfolding lookupIn lookupRefusal
   lookup-none h =
       let past = ltb-false b (lastEnd cs) (sym held-below ∙ le-ltb (holderOf b cs) (length cs) h) in
       rw (le-leb (lastEnd cs) b past)
 
-  -- Where a component holds the byte, it does not lie at or past the last end.
+  -- If a component holds the byte, it does not lie at or past the last end.
   not-past : holderOf b cs < length cs → leb (lastEnd cs) b ≡ false
   not-past h =
       lt-leb (lastEnd cs) b (ltb-true b (lastEnd cs) (sym held-below ∙ lt-ltb (holderOf b cs) (length cs) h))
 
-  -- Where the byte's component is not init, lookup refuses by 11.
+  -- If the byte's component is not init, lookup refuses by 11.
   pub lookup-not-init : holderOf b cs < length cs → holder b cs .init ≡ false → lookupIn b cs ≡ refuses 11
   unfolding lookupIn lookupRefusal
   lookup-not-init h e = rw (not-past h, any-held (λ (c : Component). not (c .init)) h, e)
 
-  -- Where a component that holds the byte is init, lookup gives the home by it.
+  -- If a component that holds the byte is init, lookup gives the home by it.
   lookup-at : (i : ℕ) → i < length cs → initAt b (getD cs i noComponent) ≡ true
       → lookupIn b cs ≡ gives (some (homeIn (getD cs i noComponent) b))
   unfolding lookupIn lookupRefusal
@@ -141,7 +141,7 @@ module _ {more : Bool} {cs : List Component} (k : Keeps more cs) (b : ℕ) where
       let init : holder b cs .init ≡ true = rw (← same) (both-true (c .init) (holds c b) e .0) in
       rw (not-past held, any-held (λ (c : Component). not (c .init)) held, init, home-at i h e)
 
-  -- Where the byte's component is init, lookup gives the home by it.
+  -- If the byte's component is init, lookup gives the home by it.
   pub lookup-init : holderOf b cs < length cs → holder b cs .init ≡ true
       → lookupIn b cs ≡ gives (some (homeIn (holder b cs) b))
   lookup-init h e = lookup-at (holderOf b cs) h (true-both e (holder-holds b cs h))

@@ -1,4 +1,4 @@
--- The home of a file byte. What stands in quotes is document 01's.
+-- The home of a file byte. What is in quotes is document 01's.
 use Prim.Native.Nat.{ℕ}
 use mathlib.Core.List.{List, [], _∷_}
 use mathlib.Core.Bool.{Bool, true, false, cond, _&&_}
@@ -11,7 +11,7 @@ use Rattle.layout.specs.declared.Component.{Component}
 use Rattle.layout.specs.Records.{noObject, recordsOf}
 use Rattle.layout.specs.Holder.{holds}
 
--- Where a file byte stands in the store: an object, which is a target and a number, and a byte of it; "two homes are
+-- Where a file byte is in the store: an object, which is a target and a number, and a byte of it; "two homes are
 -- equal if target, number and byte are".
 pub data Home : Type 0 where
   inObject : Object → ℕ → Home
@@ -33,7 +33,7 @@ initAt b c = c .init && holds c b
 abbrev pub inInit : ℕ → List Component → Bool
 inInit b cs = anyOf (initAt b) cs
 
--- What an init component that holds byte b says of it by some reading; none where no init component holds it.
+-- What an init component that holds byte b says of it by some reading; none if no init component holds it.
 abbrev pub readingOf : {A : Type 0} → (Component → ℕ → A) → ℕ → List Component → Option A
 readingOf read b [] = none
 readingOf read b (c ∷ cs) = cond (initAt b c) (some (read c b)) (readingOf read b cs)

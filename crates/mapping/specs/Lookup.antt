@@ -1,4 +1,4 @@
--- Lookup (1, 10, 11). What stands in quotes is document 01's.
+-- Lookup (1, 10, 11). What is in quotes is document 01's.
 use Prim.Native.Nat.{ℕ}
 use mathlib.Core.List.{List}
 use mathlib.Core.Bool.{Bool, not, cond, _&&_}
@@ -29,7 +29,7 @@ lookupRefusal b cs = cond (leb (lastEnd cs) b) 10 (cond (anyOf (notInitAt b) cs)
 unfoldable pub lookupIn : ℕ → List Component → Answer (Option Home)
 lookupIn b cs = answer (lookupRefusal b cs) (homeOf b cs)
 
--- The same of any layout, 1 where it is not valid.
+-- The same of any layout, 1 if it is not valid.
 unfoldable pub lookupOf : ℕ → Layout → Answer (Option Home)
 lookupOf b l = answer (checked l (lookupRefusal b (view l))) (homeOf b (view l))
 

@@ -18,7 +18,7 @@ spanOf c =
       «stripe_size» = c .«stripe_size»;
     }
 
--- What stands in the unused places of an array of them.
+-- What is in the unused places of an array of them.
 abbrev pub noSpan : Span
 noSpan = record { init = false; id = 0; begin = 0; end = 0; «stripe_count» = 0; «stripe_size» = 0 }
 

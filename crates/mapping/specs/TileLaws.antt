@@ -1,4 +1,4 @@
--- Pieces that tile a stretch of the file: two runs of them one behind the other, and how many there are by the places
+-- Pieces that tile a stretch of the file: two runs of them one after the other, and how many there are by the places
 -- at which they end.
 use Prim.Native.Nat.{ℕ, zero, suc, _+_, _-_, _≤_, _<_}
 use mathlib.Core.Path.{_≡_, refl, ap, _∙_}
@@ -11,7 +11,7 @@ use Rattle.mapping.specs.declared.Piece.{Piece}
 use Rattle.mapping.specs.CutPlaces.{countAfter}
 use Rattle.mapping.specs.CutFacts.{Each, Tiles}
 
--- What holds of each piece of two runs holds of each piece of the two, one behind the other.
+-- What holds of each piece of two runs holds of each piece of the two, one after the other.
 pub each-append : (P : Piece → Type 0) (ps qs : List Piece) → Each P ps → Each P qs → Each P (ps ++ qs)
 each-append P [] qs h k = k
 each-append P (p ∷ ps) qs h k = (h .0, each-append P ps qs (h .1) k)
@@ -21,7 +21,7 @@ pub each-map : (P Q : Piece → Type 0) → ((p : Piece) → P p → Q p) → (p
 each-map P Q f [] h = tt
 each-map P Q f (p ∷ ps) h = (f p (h .0), each-map P Q f ps (h .1))
 
--- Pieces from a to m and pieces from m to b, one behind the other, are pieces from a to b.
+-- Pieces from a to m and pieces from m to b, one after the other, are pieces from a to b.
 pub tiles-append : (a m b : ℕ) (ps qs : List Piece) → Tiles a m ps → Tiles m b qs → Tiles a b (ps ++ qs)
 tiles-append a m b [] qs h k = rw h k
 tiles-append a m b (p ∷ ps) qs h k = (h .0, h .1, tiles-append (a + p .length) m b ps qs (h .2) k)
@@ -63,7 +63,7 @@ module _ (t : ℕ → Bool) where
     pub inside : (q : ℕ) → p .offset < q → q < p .offset + p .length → t q ≡ false
     pub stops : t (p .offset + p .length) ≡ true
 
-  -- Where that holds of each piece, there are as many places as pieces.
+  -- If that holds of each piece, there are as many places as pieces.
   pub count-pieces : (a m : ℕ) (ps : List Piece) → Tiles a (a + m) ps → Each EndsAt ps → countAfter t a m ≡ length ps
   count-pieces a m [] h k = let e : m ≡ 0 = omega arith in rw e
   count-pieces a m (p ∷ ps) h k =

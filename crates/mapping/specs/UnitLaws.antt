@@ -20,7 +20,7 @@ pub unit-end : (z a : ℕ) → 0 < z → unitEnd z a ≡ a + (z - a % z)
 unfolding unitEnd unitOf
 unit-end z a hz = omega (arith, div-add-mod' a z, add-mul (a / z) 1 z, mod-lt a hz)
 
--- Where there is no byte from a to b, there is no unit.
+-- If there is no byte from a to b, there is no unit.
 pub unit-count-none : (z a b : ℕ) → b ≤ a → unitCount z a b ≡ 0
 unfolding unitCount
 unit-count-none z a b h = rw (le-ltb a b h)
@@ -39,13 +39,13 @@ unit-count-within z a b hz h =
     = rw e (mul-add-div-right hz (a / z) (a % z + (b - a - 1))) in
     unit-count-some z a b h ∙ omega (arith, q)
 
--- Where b lies in the unit of a or at its end, that unit is the only one.
+-- If b lies in the unit of a or at its end, that unit is the only one.
 pub unit-count-last : (z a b : ℕ) → 0 < z → a < b → b ≤ unitEnd z a → unitCount z a b ≡ 1
 unit-count-last z a b hz h k =
     let e : a % z + (b - a - 1) < z = omega (arith, unit-end z a hz, mod-lt a hz) in
     unit-count-within z a b hz h ∙ omega (arith, div-eq-of-lt e)
 
--- Where b lies behind the unit of a, there are that unit and those from the next one on.
+-- If b lies after the unit of a, there are that unit and those from the next one on.
 pub unit-count-next : (z a b : ℕ) → 0 < z → unitEnd z a < b → unitCount z a b ≡ suc (unitCount z (unitEnd z a) b)
 unfolding unitOf unitEnd
 unit-count-next z a b hz h =
@@ -69,13 +69,13 @@ pub length-units : (n id z s a b : ℕ) → length (unitPieces n id z s a b) ≡
 length-units zero id z s a b = refl
 length-units (suc n) id z s a b = ap suc (length-units n id z s (min (unitEnd z a) b) b)
 
--- Where b lies behind the unit of a, the first piece ends with that unit.
+-- If b lies after the unit of a, the first piece ends with that unit.
 pub units-next : (id z s a b : ℕ) → 0 < z → unitEnd z a < b →
     unitPieces (unitCount z a b) id z s a b
     ≡ pieceFrom id z s a (unitEnd z a) ∷ unitPieces (unitCount z (unitEnd z a) b) id z s (unitEnd z a) b
 units-next id z s a b hz h = rw (unit-count-next z a b hz h, min-eq-left {n = unitEnd z a} {m = b} (omega arith)) refl
 
--- Where b lies in the unit of a or at its end, there is one piece, and it ends at b.
+-- If b lies in the unit of a or at its end, there is one piece, and it ends at b.
 pub units-last : (id z s a b : ℕ) → 0 < z → a < b → b ≤ unitEnd z a →
     unitPieces (unitCount z a b) id z s a b ≡ pieceFrom id z s a b ∷ []
 units-last id z s a b hz h k = rw (unit-count-last z a b hz h k, min-eq-right k)
@@ -85,7 +85,7 @@ pub length-numbers : (ps : List Piece) → length (allNumbers ps) ≡ 5 * length
 length-numbers [] = refl
 length-numbers (p ∷ ps) = omega (arith, length-numbers ps)
 
--- The numbers of two runs of pieces, one behind the other.
+-- The numbers of two runs of pieces, one after the other.
 pub numbers-append : (ps qs : List Piece) → allNumbers (ps ++ qs) ≡ allNumbers ps ++ allNumbers qs
 numbers-append [] qs = refl
 numbers-append (p ∷ ps) qs = ap (λ (ns : List ℕ). pieceNumbers p ++ ns) (numbers-append ps qs)

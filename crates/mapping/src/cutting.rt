@@ -131,7 +131,7 @@ fn refusal_by(spans: [Span; 16], n: usize, end: u64, offset: u64, bytes: u64, nu
 }
 
 // Writes the pieces of the request from `offset` to `stop` in one component from place `at` on, and gives the place
-// behind them.
+// after them.
 pub fn put_part(room: &mut [u64], at: usize, c: Span, offset: u64, stop: u64) -> usize
     requires { ⌜ (Cuttable c) × (at + 5 * partCount offset stop c ≤ length (now room)) ⌝ }
     ensures { λ r. ⌜ (now (room .exit) ≡ sets (now (room .entry)) at (allNumbers (partPieces offset stop c)))

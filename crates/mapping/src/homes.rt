@@ -26,8 +26,8 @@ pub fn home_in(c: Component, offset: u64) -> ObjectHome
     }
 }
 
-// The home of a file byte, in a layout that is known to be valid. Refused by 10 where the byte lies at or past the last
-// component's end, and by 11 where it lies in a component that is not init.
+// The home of a file byte, in a layout that is known to be valid. Refused by 10 if the byte lies at or past the last
+// component's end, and by 11 if it lies in a component that is not init.
 pub fn lookup_valid(l: Layout, offset: u64) -> LookupOut
     requires { ⌜ valid l ≡ true ⌝ }
     ensures { λ r. ⌜ lookupSays r ≡ lookupIn offset (view l) ⌝ }

@@ -1,4 +1,4 @@
-// Where file bytes stand in the store: the home of a byte, the byte of a home, and requests cut into pieces. Offsets,
+// Where file bytes are in the store: the home of a byte, the byte of a home, and requests cut into pieces. Offsets,
 // lengths and bytes are counted in bytes; a file byte from the file's start, an object byte from its object's.
 use layout::Layout;
 ghost use mathlib.Core.Path.{_≡_};
@@ -41,7 +41,7 @@ pub enum BackOut {
 
 // What a call answers that cuts a request.
 pub enum CutOut {
-    // The number of pieces, which stand in the first lent numbers, five numbers a piece.
+    // The number of pieces, which are in the first lent numbers, five numbers a piece.
     Pieces(u64),
     // Refused, by this number.
     Refused(u8),
@@ -67,8 +67,8 @@ pub struct Piece {
     pub byte: u64,
 }
 
-// The home of a file byte. Refused by 1 where the layout is not valid, 10 where the byte lies at or past the last
-// component's end, 11 where it lies in a component that is not init.
+// The home of a file byte. Refused by 1 if the layout is not valid, 10 if the byte lies at or past the last
+// component's end, 11 if it lies in a component that is not init.
 pub fn lookup(l: Layout, offset: u64) -> LookupOut
     ensures { λ r. ⌜ lookupSays r ≡ lookupOf offset l ⌝ }
 {
@@ -78,8 +78,8 @@ pub fn lookup(l: Layout, offset: u64) -> LookupOut
     homes::lookup_valid(l, offset)
 }
 
-// The file byte whose home is a byte of the object with this target and number. Refused by 1 where the layout is not
-// valid, 13 where the object is not in it, 14 where that byte of the object is no byte of its component.
+// The file byte whose home is a byte of the object with this target and number. Refused by 1 if the layout is not
+// valid, 13 if the object is not in it, 14 if that byte of the object is no byte of its component.
 pub fn back(l: Layout, target: u32, number: u64, byte: u64) -> BackOut
     ensures { λ r. ⌜ backSays r ≡ backOf (inObject (objectOf target number) byte) l ⌝ }
 {
@@ -91,8 +91,8 @@ pub fn back(l: Layout, target: u32, number: u64, byte: u64) -> BackOut
 
 // Cuts the request of `bytes` bytes from `offset` at every component border and at every multiple of the component's
 // stripe size, and writes five numbers a piece, in file order, into the first of the lent numbers; the others stay.
-// Refused by 1 where the layout is not valid, 9 where offset + bytes is above 2^64 - 1, 10 where a byte asked for lies
-// at or past the last component's end, 11 where one lies in a component that is not init, 12 where there are more
+// Refused by 1 if the layout is not valid, 9 if offset + bytes is above 2^64 - 1, 10 if a byte asked for lies
+// at or past the last component's end, 11 if one lies in a component that is not init, 12 if there are more
 // pieces than 256 or than a fifth of the lent numbers: all of them then stay.
 pub fn cut(l: Layout, offset: u64, bytes: u64, room: &mut [u64]) -> CutOut
     ensures { λ r. ⌜ (let lent = now (room .entry) in

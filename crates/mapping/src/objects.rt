@@ -47,7 +47,7 @@ fn owner_of(l: Layout, target: u32, number: u64) -> usize
     i
 }
 
-// The file byte of object byte p of stripe i of a component with stripe size z and stripe count s, or 14 where it is
+// The file byte of object byte p of stripe i of a component with stripe size z and stripe count s, or 14 if it is
 // outside the component's extent or not below 2^64.
 pub fn byte_within(begin: u64, end: u64, z: u32, s: u16, i: u16, p: u64) -> BackOut
     requires { ⌜ (0 < z) × (0 < s) ⌝ }
@@ -68,7 +68,7 @@ pub fn byte_within(begin: u64, end: u64, z: u32, s: u16, i: u16, p: u64) -> Back
 }
 
 // The file byte of byte `byte` of the object with this target and number, in a layout that is known to be valid.
-// Refused by 13 where the object is not in the layout, and by 14 where that byte of it is no byte of its component.
+// Refused by 13 if the object is not in the layout, and by 14 if that byte of it is no byte of its component.
 pub fn back_valid(l: Layout, target: u32, number: u64, byte: u64) -> BackOut
     requires { ⌜ valid l ≡ true ⌝ }
     ensures { λ r. ⌜ backSays r ≡ backIn (inObject (objectOf target number) byte) (view l) ⌝ }

@@ -62,7 +62,19 @@ fn next_row(row: u64, stripe: u64, s: u64, size: u64) -> u64
 }
 
 // Writes the pieces of the bytes from `from` to `to`, which is not among them, from place `at` on, and gives the place
-// behind them.
+// after them. It divides only to find the first unit. From there it steps from unit to unit: to the next stripe in the
+// same row or, after the last stripe, to stripe 0 in the next row. For the bytes from 2M + 10 to 5M + 7, by 3 stripes
+// of 1M (units are counted from byte 0 of the file, whatever component the bytes are in; a dot is a unit that no byte
+// of these is in):
+//
+//               stripe 0             stripe 1             stripe 2
+//      row 0    .                    .                    unit 2: piece 1
+//      row 1    unit 3: piece 2      unit 4: piece 3      unit 5: piece 4
+//
+//      piece 1    file byte 2M + 10, length 1M - 10, stripe 2, object byte 10
+//      piece 2    file byte 3M, length 1M, stripe 0, object byte 1M
+//      piece 3    file byte 4M, length 1M, stripe 1, object byte 1M
+//      piece 4    file byte 5M, length 7, stripe 2, object byte 1M
 pub fn put_units(room: &mut [u64], at: usize, id: u16, z: u32, s: u16, from: u64, to: u64) -> usize
     requires { ⌜ (0 < z)
         × (0 < s)

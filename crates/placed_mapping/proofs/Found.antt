@@ -26,7 +26,7 @@ module _ (s ps : List ℕ) (n : ℕ) (v : ValidAt s n ps) (sixteen : length ps �
     below : holderOf b (componentsAt s (take n ps)) < length (componentsAt s (take n ps))
     below = omega (arith, valid-length s ps n v sixteen)
 
-    -- The component that holds byte b stands at place i.
+    -- The component that holds byte b is at place i.
     held : holder b (componentsAt s (take n ps)) ≡ componentAt s (getD ps i 0)
     held = rw (← at) (valid-at s ps n v sixteen i h)
 

@@ -28,7 +28,7 @@ module _ (s ps : List ℕ) (n : ℕ) (v : ValidAt s n ps) (sixteen : length ps �
     below : ownerOf o (componentsAt s (take n ps)) < length (componentsAt s (take n ps))
     below = omega (arith, valid-length s ps n v sixteen)
 
-    -- The component of the object stands at place i.
+    -- The component of the object is at place i.
     owner-placed : owner o (componentsAt s (take n ps)) ≡ componentAt s (getD ps i 0)
     owner-placed = rw (← at) (valid-at s ps n v sixteen i h)
 

@@ -10,7 +10,7 @@ use Rattle.page.specs.Content.{objectAt, componentAt}
 use Rattle.mapping.specs.Homes.{inObject, homeIn}
 use Rattle.placed_mapping.specs.FieldLaws.{stripe-object}
 
--- It is in the object of stripe i, whose record o is the i-th behind the component.
+-- It is in the object of stripe i, whose record o is the i-th after the component.
 pub home-placed : (s : List ℕ) (at : ℕ) → IsInit (componentAt s at) → (b z n i p : ℕ) (o : Object)
     → z ≡ componentAt s at .«stripe_size»
     → n ≡ componentAt s at .«stripe_count»

@@ -1,4 +1,5 @@
--- The turns of the loops over the components at places: turn i looks at the component at place i, and those after it are left.
+-- The turns of the loops over the components at places: turn i looks at the component at place i, and those after it are
+-- left.
 use Prim.Native.Nat.{ℕ, _+_, _*_, _≤_, _<_}
 use mathlib.Core.Path.{_≡_, sym, ap, _∙_}
 use mathlib.Core.List.{List, _∷_}
@@ -20,7 +21,8 @@ use Rattle.placed_mapping.specs.Spans.{spanAt, spansAt}
 use Rattle.placed_mapping.specs.ValidLaws.{valid-next}
 use Rattle.placed_mapping.specs.SpanLaws.{spans-next, cuttable-at}
 
--- A loop that looks for the first component that passes a test: its position is i and the position among those from place i on.
+-- A loop that looks for the first component that passes a test: its position is i and the position among those from
+-- place i on.
 module _ (s ps : List ℕ) (n : ℕ) (v : ValidAt s n ps) (sixteen : length ps ≡ 16) (test : Component → Bool) (whole i : ℕ)
     (at : whole ≡ i + firstThat test (componentsAt s (slice i n ps))) where
   module _ (h : i < n) where
@@ -44,23 +46,23 @@ module _ (s ps : List ℕ) (n : ℕ) (v : ValidAt s n ps) (sixteen : length ps �
   pub turn-cuttable : Cuttable x
   turn-cuttable = rw read (cuttable-at s ps n v sixteen i h)
 
-  -- The components from place i on are x and those behind it.
+  -- The components from place i on are x and those after it.
   turn : spansAt s (slice i n ps) ≡ x ∷ spansAt s (slice (i + 1) n ps)
   turn = spans-next s ps n v sixteen i h ∙ ap (λ (y : Span). y ∷ spansAt s (slice (i + 1) n ps)) (sym read)
 
-  -- What was found so far or is asked of them, was found, is asked of x, or is asked of those behind it.
+  -- What was found so far or is asked of them, was found, is asked of x, or is asked of those after it.
   pub turn-asked : (found asked : Bool) → asked ≡ notInitAsked a b x
       → (found || anyOf (notInitAsked a b) (spansAt s (slice i n ps)))
       ≡ (found || asked || anyOf (notInitAsked a b) (spansAt s (slice (i + 1) n ps)))
   turn-asked found asked e =
       rw (turn, ← e) (sym (or-assoc found asked (anyOf (notInitAsked a b) (spansAt s (slice (i + 1) n ps)))))
 
-  -- Their pieces are those of x and of those behind it,
+  -- Their pieces are those of x and of those after it,
   pub turn-count : pieceCount a b (spansAt s (slice i n ps))
       ≡ partCount a b x + pieceCount a b (spansAt s (slice (i + 1) n ps))
   turn-count = rw turn
 
-  -- and are written one component behind the other.
+  -- and are written one component after the other.
   pub turn-pieces : (lent : List ℕ) (at : ℕ)
       → sets lent at (allNumbers (piecesOf a b (spansAt s (slice i n ps))))
       ≡ sets (sets lent at (allNumbers (partPieces a b x))) (at + 5 * partCount a b x)

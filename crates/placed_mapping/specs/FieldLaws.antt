@@ -1,4 +1,4 @@
--- The fields of the component at a place are the numbers that stand there, and its object records are those behind it.
+-- The fields of the component at a place are the numbers that are there, and its object records are those after it.
 use Prim.Native.Nat.{ℕ, zero, suc, _+_, _*_, _<_, min}
 use mathlib.Core.Path.{_≡_, refl, ap, sym, _∙_}
 use mathlib.Core.List.{List}
@@ -44,13 +44,13 @@ object-of (suc n) s at (suc i) h =
 
 -- An init component at a place.
 module _ (s : List ℕ) (at : ℕ) (k : IsInit (componentAt s at)) where
-  -- As many object records stand behind it as it has stripes.
+  -- As many object records are after it as it has stripes.
   pub init-count : recordsAt s at ≡ componentAt s at .«stripe_count»
   init-count =
       sym (component-count s at)
       ∙ ap (λ (init : Bool). countOf init (componentAt s at .«stripe_count»)) (k .init)
 
-  -- The object record of stripe i is the i-th behind it.
+  -- The object record of stripe i is the i-th after it.
   pub stripe-object : (i : ℕ) → i < componentAt s at .«stripe_count»
       → getD (recordsOf (componentAt s at)) i noObject ≡ objectAt s (at + 40 + 16 * i)
   stripe-object i h =

@@ -22,7 +22,7 @@ spans-done s ps n i h = ap spansOf (components-done s ps n i h)
 -- The components at the first n places are those of a valid layout.
 module _ (s ps : List ℕ) (n : ℕ) (v : ValidAt s n ps) (sixteen : length ps ≡ 16) where
   module _ (i : ℕ) (h : i < n) where
-    -- Those from place i on are the one there and those at the places behind it.
+    -- Those from place i on are the one there and those at the places after it.
     pub spans-next : spansAt s (slice i n ps) ≡ spanAt s (getD ps i 0) ∷ spansAt s (slice (i + 1) n ps)
     spans-next = ap spansOf (valid-next s ps n v sixteen i h)
 

@@ -1,4 +1,4 @@
--- What is known of the components at the first n places, where they are those of a valid layout.
+-- What is known of the components at the first n places, if they are those of a valid layout.
 use Prim.Native.Nat.{ℕ, _+_, _<_}
 use mathlib.Core.Path.{_≡_}
 use mathlib.Core.List.{List, _∷_}
@@ -36,11 +36,11 @@ module _ (s ps : List ℕ) (n : ℕ) (v : ValidAt s n ps) where
           rw valid-at
           at (kind-at (componentsAt s (take n ps)) (valid-keeps .fields) noComponent i (omega (arith, valid-length)))
 
-      -- Where its init flag is set, it is an init component.
+      -- If its init flag is set, it is an init component.
       pub valid-init : componentAt s (getD ps i 0) .init ≡ true → IsInit (componentAt s (getD ps i 0))
       valid-init e = kind-init valid-kind e
 
-      -- The components from place i on are the one there and those at the places behind it.
+      -- The components from place i on are the one there and those at the places after it.
       pub valid-next : componentsAt s (slice i n ps)
           ≡ componentAt s (getD ps i 0) ∷ componentsAt s (slice (i + 1) n ps)
       valid-next = components-next s ps n i h (omega arith)

@@ -13,15 +13,15 @@ ghost use Rattle.mapping.specs.Homes.{homeIn};
 ghost use Rattle.mapping.specs.Lookup.{homeSays, lookupSays, lookupIn};
 
 // The position of the component that holds a file byte, which is the first that ends above it, or n.
-fn holder(s: &[u8], places: &[usize; 16], n: usize, offset: u64) -> usize
-    requires { ⌜ ValidAt (now s) n (now places) × (length (now places) ≡ 16) ⌝ }
-    ensures { λ r. ⌜ (r ≡ holderOf offset (componentsAt (now (s .entry)) (take n (now (places .entry)))))
+fn holder(pages: &[u8], places: &[usize; 16], n: usize, offset: u64) -> usize
+    requires { ⌜ ValidAt (now pages) n (now places) × (length (now places) ≡ 16) ⌝ }
+    ensures { λ r. ⌜ (r ≡ holderOf offset (componentsAt (now (pages .entry)) (take n (now (places .entry)))))
         × (r ≤ n) ⌝ }
 {
     let mut i: usize = 0;
     while i < n {
         let at = places[i];
-        if offset < bytes_le::u64_at(s, at + 24) {
+        if offset < bytes_le::u64_at(pages, at + 24) {
             return i;
         }
         i += 1;
@@ -31,15 +31,15 @@ fn holder(s: &[u8], places: &[usize; 16], n: usize, offset: u64) -> usize
 
 // The home of a file byte by the init component at the place; the component's extent is not looked at. Of its object
 // records only that of the byte's stripe is read.
-fn home_at(s: &[u8], at: usize, offset: u64) -> ObjectHome
-    requires { ⌜ (behind (now s) at ≤ length (now s)) × IsInit (componentAt (now s) at) ⌝ }
-    ensures { λ r. ⌜ homeSays r ≡ homeIn (componentAt (now (s .entry)) at) offset ⌝ }
+fn home_at(pages: &[u8], at: usize, offset: u64) -> ObjectHome
+    requires { ⌜ (behind (now pages) at ≤ length (now pages)) × IsInit (componentAt (now pages) at) ⌝ }
+    ensures { λ r. ⌜ homeSays r ≡ homeIn (componentAt (now (pages .entry)) at) offset ⌝ }
 {
-    let count = bytes_le::u16_at(s, at + 6);
-    let size = bytes_le::u32_at(s, at + 8);
+    let count = bytes_le::u16_at(pages, at + 6);
+    let size = bytes_le::u32_at(pages, at + 8);
     let stripe = stripe::stripe_of(size, count, offset);
     let byte = stripe::object_byte(size, count, offset);
-    let object = page::decode::object_at(s, at + 40 + 16 * (stripe as usize));
+    let object = page::decode::object_at(pages, at + 40 + 16 * (stripe as usize));
     ObjectHome {
         target: object.target,
         number: object.number,
@@ -47,19 +47,20 @@ fn home_at(s: &[u8], at: usize, offset: u64) -> ObjectHome
     }
 }
 
-// The home of a file byte. Refused by 10 where the byte lies at or past the last component's end, and by 11 where it
+// The home of a file byte. Refused by 10 if the byte lies at or past the last component's end, and by 11 if it
 // lies in a component that is not init.
-pub fn lookup(s: &[u8], places: &[usize; 16], n: usize, offset: u64) -> LookupOut
-    requires { ⌜ ValidAt (now s) n (now places) × (length (now places) ≡ 16) ⌝ }
-    ensures { λ r. ⌜ lookupSays r ≡ lookupIn offset (componentsAt (now (s .entry)) (take n (now (places .entry)))) ⌝ }
+pub fn lookup(pages: &[u8], places: &[usize; 16], n: usize, offset: u64) -> LookupOut
+    requires { ⌜ ValidAt (now pages) n (now places) × (length (now places) ≡ 16) ⌝ }
+    ensures { λ r. ⌜ lookupSays r
+        ≡ lookupIn offset (componentsAt (now (pages .entry)) (take n (now (places .entry)))) ⌝ }
 {
-    let i = holder(s, places, n, offset);
+    let i = holder(pages, places, n, offset);
     if n <= i {
         return LookupOut::Refused(10);
     }
     let at = places[i];
-    if !bytes_le::flags::first(bytes_le::u16_at(s, at + 2)) {
+    if !bytes_le::flags::first(bytes_le::u16_at(pages, at + 2)) {
         return LookupOut::Refused(11);
     }
-    LookupOut::Found(home_at(s, at, offset))
+    LookupOut::Found(home_at(pages, at, offset))
 }

@@ -117,7 +117,7 @@ next-on-first-stripe z s o d hz h hs =
       rw (unit-next z o d hz h, quotient-next s (unitOf z o) 1 p hs, unit-next-begin z o d hz h) (omega arith),
     )
 
--- The last unit of the file whose byte p mod z is below b, where there is one.
+-- The last unit of the file whose byte p mod z is below b, if there is one.
 unfoldable pub lastUnit : ℕ → ℕ → ℕ → ℕ
 lastUnit b z p = (b - 1 - p % z) / z
 
@@ -135,12 +135,12 @@ file-byte-below b z s i p hz hs hb = (
       omega (arith, le-div-iff-mul-le hz .0 u),
 )
 
--- Where the file byte is below 2^64, `fileByteBelow` is some of it.
+-- If the file byte is below 2^64, `fileByteBelow` is some of it.
 pub file-byte-some : (z s i p : ℕ) → fileByte z s i p < 2 ^ 64 → fileByteBelow z s i p ≡ some (fileByte z s i p)
 unfolding fileByteBelow
 file-byte-some z s i p h = rw (lt-ltb (fileByte z s i p) (2 ^ 64) h)
 
--- Where the file byte is not below 2^64, `fileByteBelow` is none.
+-- If the file byte is not below 2^64, `fileByteBelow` is none.
 pub file-byte-none : (z s i p : ℕ) → (fileByte z s i p < 2 ^ 64 → ⊥) → fileByteBelow z s i p ≡ none
 unfolding fileByteBelow
 file-byte-none z s i p h = rw (le-ltb (fileByte z s i p) (2 ^ 64) (omega arith))

@@ -1,6 +1,6 @@
-// Round-robin striping: where a file byte stands in the objects of its component, and the way back. z is the stripe
+// Round-robin striping: where a file byte is in the objects of its component, and the way back. z is the stripe
 // size in bytes, s the stripe count; a file byte is counted from the file's start, an object byte from its object's.
-// What stands in quotes is document 01's.
+// What is in quotes is document 01's.
 ghost use mathlib.Core.Path.{_≡_};
 ghost use Prim.Native.Nat.{_<_, _≤_};
 ghost use Rattle.stripe.specs.Stripe.{unitOf, stripeOf, objectByte, fileByteBelow, fileByteSays};
@@ -39,7 +39,7 @@ pub fn object_byte(z: u32, s: u16, offset: u64) -> u64
     unit_of(z, offset) / count * size + offset % size
 }
 
-// The file byte of object byte p of stripe i, "((p / z) x S + i) x z + p mod z, division rounded down", or `Past` where
+// The file byte of object byte p of stripe i, "((p / z) x S + i) x z + p mod z, division rounded down", or `Past` if
 // it is "not below 2^64". That is tested first, by the last unit whose byte p mod z is below 2^64, so nothing wraps.
 pub fn file_byte(z: u32, s: u16, i: u16, p: u64) -> FileByte
     requires { ⌜ (0 < z) × (0 < s) ⌝ }

@@ -53,17 +53,6 @@ returns-3 c =
 
 pub file-byte-spec : {M : Type 1} → statement M
 file-byte-spec =
-    tie.close
-    (tie.spec
-    (λ c. search needs)
-    (λ c. search needs)
-    (λ c. omega (arith, mod-le (c .args .p) (c .args .z)))
-    (λ c. search needs)
-    returns
-    (λ c. search needs)
-    returns-2
-    (λ c. omega (arith, fits c .0))
-    (λ c. omega (arith, fits c .0))
-    (λ c. omega (arith, fits c .1))
-    (λ c. omega (arith, fits c .1))
-    returns-3)
+    tie.close (tie.spec (λ c. search needs) (λ c. search needs) (λ c. omega (arith, mod-le (c .args .p) (c .args .z)))
+    (λ c. search needs) returns (λ c. search needs) returns-2 (λ c. omega (arith, fits c .0))
+    (λ c. omega (arith, fits c .0)) (λ c. omega (arith, fits c .1)) (λ c. omega (arith, fits c .1)) returns-3)

@@ -26,11 +26,5 @@ returns c = (omega (arith, byte c .0), omega (arith, byte c .1))
 
 pub object-byte-spec : {M : Type 1} → statement M
 object-byte-spec =
-    tie.close
-    (tie.spec
-    (λ c κs. search needs)
-    (λ c. search needs)
-    (λ c. omega (arith, byte c .1))
-    (λ c. search needs)
-    (λ c. omega (arith, byte c .1))
-    returns)
+    tie.close (tie.spec (λ c κs. search needs) (λ c. search needs) (λ c. omega (arith, byte c .1)) (λ c. search needs)
+    (λ c. omega (arith, byte c .1)) returns)

@@ -1,4 +1,4 @@
--- `mapping::cutting::cut_spans` meets its contract: where nothing refuses the request, its pieces have room.
+-- `mapping::cutting::cut_spans` meets its contract: if nothing refuses the request, its pieces have room.
 use borrow.Author.Needs.{needs}
 use Rattle.mapping.proofs.cutting.cut_spans.Statement.{statement}
 use Rattle.mapping.proofs.cutting.cut_spans.Tie as tie

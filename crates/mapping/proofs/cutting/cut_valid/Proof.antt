@@ -1,4 +1,4 @@
--- `mapping::cutting::cut_valid` meets its contract: the components stand in the array as cutting sees them.
+-- `mapping::cutting::cut_valid` meets its contract: the components are in the array as cutting sees them.
 use borrow.Author.Needs.{needs}
 use Rattle.mapping.proofs.cutting.cut_valid.Statement.{statement}
 use Rattle.mapping.proofs.cutting.cut_valid.Tie as tie

@@ -32,7 +32,7 @@ abbrev μ-loop : tie.MeasureT-loop
 loop-holds : tie.Need-loop-holds Inv-loop μ-loop
 loop-holds c = let s = c .before in (search needs, s .pre .0, s .pre .1, refl, zero-add _, refl)
 
--- The components from i on are component i and those behind it.
+-- The components from i on are component i and those after it.
 next : (c : tie.In-loop Inv-loop μ-loop) → let i = c .before .loop .i in let a = c .before .before .before .args in
     slice i (a .n) (a .t2) ≡ getD (a .t2) i noSpan ∷ slice (i + 1) (a .n) (a .t2)
 next c =
@@ -44,7 +44,7 @@ cuttable : (c : tie.In-loop Inv-loop μ-loop) → let i = c .before .loop .i in 
     Cuttable (getD (a .t2) i noSpan) × AllCuttable (slice (i + 1) (a .n) (a .t2))
 cuttable c = rw (next c) at (c .before .loop .inv .2)
 
--- The numbers of the pieces of component i and of those behind it end where all numbers end.
+-- The numbers of the pieces of component i and of those after it end where all numbers end.
 ends : (c : tie.In-loop Inv-loop μ-loop) → let p = c .before .loop in let a = c .before .before .before .args in
     p .at
     + 5 * (partCount (a .offset) (a .stop) (getD (a .t2) (p .i) noSpan)

@@ -35,7 +35,7 @@ abbrev μ-loop : tie.MeasureT-loop
 loop-holds : tie.Need-loop-holds Inv-loop μ-loop
 loop-holds c = (search needs, valid-facts (c .args .t1) (c .pre) .few, sym (zero-add _))
 
--- The components from i on are component i and those behind it.
+-- The components from i on are component i and those after it.
 next : (c : tie.In-loop Inv-loop μ-loop) → let i = c .before .loop .i in let l = c .before .before .args .t1 in
     slice i (l .count) (l .components) ≡ readAt l i ∷ slice (i + 1) (l .count) (l .components)
 next c =

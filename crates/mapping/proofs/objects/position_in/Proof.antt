@@ -24,7 +24,7 @@ Inv-loop target number c n i₀ i =
 abbrev μ-loop : tie.MeasureT-loop
 μ-loop target number c n i₀ i = n - i
 
--- The object records from i on are record i and those behind it.
+-- The object records from i on are record i and those after it.
 next : (c : tie.In-loop Inv-loop μ-loop) → let i = c .before .loop .i in
     let n = c .before .before .record-count .result in let os = c .before .before .before .args .t1 .objects in
     slice i n os ≡ getD os i noObject ∷ slice (i + 1) n os

@@ -1,4 +1,4 @@
--- `mapping::units::put_piece` meets its contract: its five stores are those of the five numbers, one behind the other.
+-- `mapping::units::put_piece` meets its contract: its five stores are those of the five numbers, one after the other.
 use native.Mathlib.Numerals.{add-one, add-two, add-three, add-four}
 use native.Mathlib.Omega.{arith}
 use lib.ListN.{length-set}

@@ -35,7 +35,7 @@ loop-holds c = (search needs, search needs, refl, sym (zero-add _))
 
 -- The component at place i ends by the end of the bytes.
 within : (c : tie.In-loop Inv-loop μ-loop) → let a = c .before .before .before .args in
-    behind (now (a .s)) (getD (now (a .places)) (c .before .loop .i) 0) ≤ length (now (a .s))
+    behind (now (a .pages)) (getD (now (a .places)) (c .before .loop .i) 0) ≤ length (now (a .pages))
 within c = c .before .before .before .pre .0 .2 (c .before .loop .i) (c .loop-test .taken)
 
 part-count-requires : tie.Need-part-count-requires Inv-loop μ-loop
@@ -43,7 +43,7 @@ part-count-requires c κs =
     let turn = c .before .before .before in
     let s = turn .before .before .before in
     let a = s .args in
-    turn-cuttable (now (a .s)) (now (a .places)) (a .n) (s .pre .0) (s .pre .1) (turn .before .loop .i)
+    turn-cuttable (now (a .pages)) (now (a .places)) (a .n) (s .pre .0) (s .pre .1) (turn .before .loop .i)
     (turn .loop-test .taken) (a .offset) (a .stop) (c .before .span-at .result) (c .before .span-at .ensures)
 
 add-pieces : tie.Need-add-pieces Inv-loop μ-loop
@@ -56,10 +56,10 @@ loop-again c =
     let p = turn .before in
     let s = p .before .before in
     let a = s .args in
-    let asked = turn-asked (now (a .s)) (now (a .places)) (a .n) (s .pre .0) (s .pre .1) (p .loop .i)
+    let asked = turn-asked (now (a .pages)) (now (a .places)) (a .n) (s .pre .0) (s .pre .1) (p .loop .i)
     (turn .loop-test .taken) (a .offset) (a .stop) (x .result) (x .ensures) (p .loop .not-init)
     (c .before .not-init-asked .result) (c .before .not-init-asked .ensures) in
-    let count = turn-count (now (a .s)) (now (a .places)) (a .n) (s .pre .0) (s .pre .1) (p .loop .i)
+    let count = turn-count (now (a .pages)) (now (a .places)) (a .n) (s .pre .0) (s .pre .1) (p .loop .i)
     (turn .loop-test .taken) (a .offset) (a .stop) (x .result) (x .ensures) in (
       omega arith,
       omega (arith, c .part-count .ensures .1),
@@ -71,7 +71,7 @@ returns : tie.Need-returns Inv-loop μ-loop
 returns c =
     let p = c .before in
     let a = p .before .before .args in
-    let done = spans-done (now (a .s)) (now (a .places)) (a .n) (p .loop .i) (c .loop-test .left) in
+    let done = spans-done (now (a .pages)) (now (a .places)) (a .n) (p .loop .i) (c .loop-test .left) in
     (sym (p .loop .inv .2 ∙ rw done (or-false _)), sym (p .loop .inv .3 ∙ rw done (add-zero _)))
 
 pub asked-of-spec : {M : Type 1} → statement M

@@ -1,4 +1,4 @@
--- `placed_mapping::cutting::cut` meets its contract: where nothing refuses the request, its pieces have room.
+-- `placed_mapping::cutting::cut` meets its contract: if nothing refuses the request, its pieces have room.
 use Prim.Native.Nat.{_+_, _/_}
 use mathlib.Core.Path.{_≡_, sym, ap, _∙_}
 use native.Mathlib.Omega.{arith}
@@ -21,18 +21,18 @@ returns c =
     let r = c .before .refusal in
     let a = c .before .before .before .before .args in
     let ps = take (a .n) (now (a .places)) in
-    cut-refused (lastEnd (componentsAt (now (a .s)) ps)) (a .offset) (a .bytes) (spansAt (now (a .s)) ps)
+    cut-refused (lastEnd (componentsAt (now (a .pages)) ps)) (a .offset) (a .bytes) (spansAt (now (a .pages)) ps)
     (now (a .room)) (r .result) (r .ensures) (c .if1 .taken)
 
 -- Past the test, the request is accepted.
 fits : (c : tie.Else1) → let a = c .before .before .before .before .args in let ps = take (a .n) (now (a .places)) in
-    Accepted (lastEnd (componentsAt (now (a .s)) ps)) (a .offset) (a .bytes) (length (now (a .room)))
-    (spansAt (now (a .s)) ps)
+    Accepted (lastEnd (componentsAt (now (a .pages)) ps)) (a .offset) (a .bytes) (length (now (a .room)))
+    (spansAt (now (a .pages)) ps)
 fits c =
     let a = c .before .before .before .before .args in
     let ps = take (a .n) (now (a .places)) in
-    accepted-facts (lastEnd (componentsAt (now (a .s)) ps)) (a .offset) (a .bytes) (length (now (a .room)))
-    (spansAt (now (a .s)) ps) (sym (c .before .refusal .ensures) ∙ c .if1 .left)
+    accepted-facts (lastEnd (componentsAt (now (a .pages)) ps)) (a .offset) (a .bytes) (length (now (a .room)))
+    (spansAt (now (a .pages)) ps) (sym (c .before .refusal .ensures) ∙ c .if1 .left)
 
 add-put-pieces : tie.Need-add-put-pieces
 add-put-pieces c = omega (arith, fits (c .before) .below)
@@ -50,8 +50,8 @@ returns-2 c =
     let r = e .before .refusal in
     let a = e .before .before .before .before .args in
     let ps = take (a .n) (now (a .places)) in
-    let spans = spansAt (now (a .s)) ps in
-    let done = cut-accepted (lastEnd (componentsAt (now (a .s)) ps)) (a .offset) (a .bytes) spans (now (a .room))
+    let spans = spansAt (now (a .pages)) ps in
+    let done = cut-accepted (lastEnd (componentsAt (now (a .pages)) ps)) (a .offset) (a .bytes) spans (now (a .room))
     (r .result) (r .ensures) (e .if1 .left) in
     let pieces : put .put-pieces .result / 5 ≡ pieceCount (a .offset) (a .offset + a .bytes) spans
     = omega (arith, put .put-pieces .ensures .1) in

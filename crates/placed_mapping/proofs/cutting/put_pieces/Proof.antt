@@ -32,13 +32,13 @@ loop-holds c = (search needs, refl, omega arith, refl)
 
 -- The component at place i ends by the end of the bytes.
 within : (c : tie.In-loop Inv-loop μ-loop) → let a = c .before .before .before .before .args in
-    behind (now (a .s)) (getD (now (a .places)) (c .before .loop .i) 0) ≤ length (now (a .s))
+    behind (now (a .pages)) (getD (now (a .places)) (c .before .loop .i) 0) ≤ length (now (a .pages))
 within c = c .before .before .before .before .pre .0 .2 (c .before .loop .i) (c .loop-test .taken)
 
--- The pieces of the components from place i on are those of component i and of those behind it.
+-- The pieces of the components from place i on are those of component i and of those after it.
 counts : (c : tie.After-span-at Inv-loop μ-loop) → let p = c .before .before .before .loop in
     let a = c .before .before .before .before .before .before .args in
-    let spans = spansAt (now (a .s)) in
+    let spans = spansAt (now (a .pages)) in
     pieceCount (a .offset) (a .stop) (spans (slice (p .i) (a .n) (now (a .places))))
     ≡ partCount (a .offset) (a .stop) (c .span-at .result)
     + pieceCount (a .offset) (a .stop) (spans (slice (p .i + 1) (a .n) (now (a .places))))
@@ -46,7 +46,7 @@ counts c =
     let turn = c .before .before in
     let s = turn .before .before .before .before in
     let a = s .args in
-    turn-count (now (a .s)) (now (a .places)) (a .n) (s .pre .0) (s .pre .1) (turn .before .loop .i)
+    turn-count (now (a .pages)) (now (a .places)) (a .n) (s .pre .0) (s .pre .1) (turn .before .loop .i)
     (turn .loop-test .taken) (a .offset) (a .stop) (c .span-at .result) (c .span-at .ensures)
 
 put-part-requires : tie.Need-put-part-requires Inv-loop μ-loop
@@ -56,7 +56,7 @@ put-part-requires c κs =
     let p = turn .before in
     let s = p .before .before .before in
     let a = s .args in (
-      turn-cuttable (now (a .s)) (now (a .places)) (a .n) (s .pre .0) (s .pre .1) (p .loop .i)
+      turn-cuttable (now (a .pages)) (now (a .places)) (a .n) (s .pre .0) (s .pre .1) (p .loop .i)
           (turn .loop-test .taken) (a .offset) (a .stop) (x .span-at .result) (x .span-at .ensures),
       omega (arith, counts x, s .pre .2, p .loop .inv .1, p .loop .inv .2),
     )
@@ -69,7 +69,7 @@ loop-again c =
     let p = turn .before in
     let s = p .before .before .before in
     let a = s .args in
-    let pieces = turn-pieces (now (a .s)) (now (a .places)) (a .n) (s .pre .0) (s .pre .1) (p .loop .i)
+    let pieces = turn-pieces (now (a .pages)) (now (a .places)) (a .n) (s .pre .0) (s .pre .1) (p .loop .i)
     (turn .loop-test .taken) (a .offset) (a .stop) (x .span-at .result) (x .span-at .ensures) (p .loop .room)
     (p .loop .w) in (
       omega arith,
@@ -82,7 +82,7 @@ returns : tie.Need-returns Inv-loop μ-loop
 returns c =
     let p = c .before in
     let a = p .before .before .before .args in
-    let done = spans-done (now (a .s)) (now (a .places)) (a .n) (p .loop .i) (c .loop-test .left) in
+    let done = spans-done (now (a .pages)) (now (a .places)) (a .n) (p .loop .i) (c .loop-test .left) in
     (sym (rw done at (p .loop .inv .3)), omega (arith, rw done at (p .loop .inv .2)))
 
 pub put-pieces-spec : {M : Type 1} → statement M

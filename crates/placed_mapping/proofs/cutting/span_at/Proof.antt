@@ -16,7 +16,7 @@ returns c =
     let ids = ends .before .before in
     let flags = ids .before .before in
     let a = flags .before .before .args in
-    let s = now (a .s) in
+    let s = now (a .pages) in
     let init : ids .before .first .result ≡ isSet 0 (u16At s (a .at + 2))
     = ids .before .first .ensures ∙ ap (isSet 0) (flags .u16-at .ensures) in
     let id : ids .u16-at2 .result ≡ u16At s (a .at + 4) = ids .u16-at2 .ensures in

@@ -32,7 +32,7 @@ abbrev μ-loop : tie.MeasureT-loop
 loop-holds : tie.Need-loop-holds Inv-loop μ-loop
 loop-holds c =
     let a = c .before .args in
-    let s = now (a .s) in
+    let s = now (a .pages) in
     let ps = now (a .places) in (
       search needs,
       holder-ends false (componentsAt s (take (a .n) ps)) (valid-keeps s ps (a .n) (c .before .pre .0) .linked)
@@ -42,7 +42,7 @@ loop-holds c =
 
 -- The component at place i ends by the end of the bytes.
 within : (c : tie.In-loop Inv-loop μ-loop) → let a = c .before .before .before .args in
-    behind (now (a .s)) (getD (now (a .places)) (c .before .loop .i) 0) ≤ length (now (a .s))
+    behind (now (a .pages)) (getD (now (a .places)) (c .before .loop .i) 0) ≤ length (now (a .pages))
 within c = c .before .before .before .pre .0 .2 (c .before .loop .i) (c .loop-test .taken)
 
 returns : tie.Need-returns Inv-loop μ-loop
@@ -50,7 +50,7 @@ returns c =
     let turn = c .before .before .before in
     let s = turn .before .before .before in
     let a = s .args in (
-      first-here (now (a .s)) (now (a .places)) (a .n) (s .pre .0) (s .pre .1) (λ (x : Component). ltb (a .offset) (x .end))
+      first-here (now (a .pages)) (now (a .places)) (a .n) (s .pre .0) (s .pre .1) (λ (x : Component). ltb (a .offset) (x .end))
           _ _ (turn .before .loop .inv .1) (turn .loop-test .taken)
           (rw (end-at, ← c .before .u64-at .ensures) (lt-ltb _ _ (c .if1 .taken))),
       omega arith,
@@ -62,7 +62,7 @@ loop-again c =
     let s = turn .before .before .before in
     let a = s .args in (
       omega arith,
-      first-later (now (a .s)) (now (a .places)) (a .n) (s .pre .0) (s .pre .1) (λ (x : Component). ltb (a .offset) (x .end))
+      first-later (now (a .pages)) (now (a .places)) (a .n) (s .pre .0) (s .pre .1) (λ (x : Component). ltb (a .offset) (x .end))
           _ _ (turn .before .loop .inv .1) (turn .loop-test .taken)
           (rw (end-at, ← c .before .u64-at .ensures) (le-ltb _ _ (c .if1 .left))),
     )
@@ -71,7 +71,7 @@ returns-2 : tie.Need-returns-2 Inv-loop μ-loop
 returns-2 c =
     let s = c .before .before .before in
     let a = s .args in (
-      first-none (now (a .s)) (now (a .places)) (a .n) (s .pre .0) (s .pre .1) (λ (x : Component). ltb (a .offset) (x .end))
+      first-none (now (a .pages)) (now (a .places)) (a .n) (s .pre .0) (s .pre .1) (λ (x : Component). ltb (a .offset) (x .end))
           _ _ (c .before .loop .inv .1) (c .loop-test .left),
       omega arith,
     )

@@ -1,4 +1,4 @@
--- `placed_mapping::homes::home_at` meets its contract: the object record of the byte's stripe stands behind the
+-- `placed_mapping::homes::home_at` meets its contract: the object record of the byte's stripe is after the
 -- component.
 use Prim.Native.Nat.{_<_}
 use mathlib.Core.Path.{_≡_, sym, _∙_}
@@ -13,13 +13,13 @@ use Rattle.placed_mapping.proofs.homes.home_at.Tie as tie
 
 -- The stripe count that was read is the component's.
 count-read : (c : tie.After-u16-at) → let a = c .before .before .args in
-    c .u16-at .result ≡ componentAt (now (a .s)) (a .at) .«stripe_count»
-count-read c = let a = c .before .before .args in c .u16-at .ensures ∙ sym (stripe-count-at (now (a .s)) (a .at))
+    c .u16-at .result ≡ componentAt (now (a .pages)) (a .at) .«stripe_count»
+count-read c = let a = c .before .before .args in c .u16-at .ensures ∙ sym (stripe-count-at (now (a .pages)) (a .at))
 
 -- So is the stripe size.
 size-read : (c : tie.After-u32-at) → let a = c .before .before .before .args in
-    c .u32-at .result ≡ componentAt (now (a .s)) (a .at) .«stripe_size»
-size-read c = let a = c .before .before .before .args in c .u32-at .ensures ∙ sym (stripe-size-at (now (a .s)) (a .at))
+    c .u32-at .result ≡ componentAt (now (a .pages)) (a .at) .«stripe_size»
+size-read c = let a = c .before .before .before .args in c .u32-at .ensures ∙ sym (stripe-size-at (now (a .pages)) (a .at))
 
 -- Neither is 0.
 nonzero : (c : tie.After-u32-at) → (0 < c .u32-at .result) × (0 < c .before .u16-at .result)
@@ -43,7 +43,7 @@ object-at-requires c κs =
       s .pre .0,
       c .before .stripe-of .ensures .1,
       count-read count,
-      init-count (now (s .args .s)) (s .args .at) (s .pre .1),
+      init-count (now (s .args .pages)) (s .args .at) (s .pre .1),
     )
 
 returns : tie.Need-returns
@@ -51,7 +51,7 @@ returns c =
     let byte = c .before in
     let size = byte .before .before in
     let s = size .before .before .before in
-    home-placed (now (s .args .s)) (s .args .at) (s .pre .1) (s .args .offset) (size .u32-at .result)
+    home-placed (now (s .args .pages)) (s .args .at) (s .pre .1) (s .args .offset) (size .u32-at .result)
     (size .before .u16-at .result) (byte .before .stripe-of .result) (byte .object-byte .result) (c .object-at .result)
     (size-read size) (count-read (size .before)) (byte .before .stripe-of .ensures .0)
     (byte .before .stripe-of .ensures .1) (byte .object-byte .ensures .0) (c .object-at .ensures)

@@ -26,12 +26,12 @@ returns c =
     let s = c .before .before .before in
     let a = s .args in
     let i = c .before .holder in
-    sym (none-holds (now (a .s)) (now (a .places)) (a .n) (s .pre .0) (s .pre .1) (a .offset) (i .result)
+    sym (none-holds (now (a .pages)) (now (a .places)) (a .n) (s .pre .0) (s .pre .1) (a .offset) (i .result)
     (i .ensures .0) (c .if1 .taken))
 
 -- The component at place i ends by the end of the bytes.
 within : (c : tie.Else1) → let a = c .before .before .before .args in
-    behind (now (a .s)) (getD (now (a .places)) (c .before .holder .result) 0) ≤ length (now (a .s))
+    behind (now (a .pages)) (getD (now (a .places)) (c .before .holder .result) 0) ≤ length (now (a .pages))
 within c = c .before .before .before .pre .0 .2 (c .before .holder .result) (c .if1 .left)
 
 add-u16-at : tie.Need-add-u16-at
@@ -43,11 +43,11 @@ u16-at-requires c κs = omega (arith, within (c .before))
 -- The flag that was read is the component's init flag.
 init-read : (c : tie.After-first) → let i = c .before .before .before .before .holder .result in
     let a = c .before .before .before .before .before .before .args in
-    componentAt (now (a .s)) (getD (now (a .places)) i 0) .init ≡ c .first .result
+    componentAt (now (a .pages)) (getD (now (a .places)) i 0) .init ≡ c .first .result
 init-read c =
     let i = c .before .before .before .before .holder .result in
     let a = c .before .before .before .before .before .before .args in
-    init-at (now (a .s)) (getD (now (a .places)) i 0) ∙ ap (isSet 0) (sym (c .before .u16-at .ensures))
+    init-at (now (a .pages)) (getD (now (a .places)) i 0) ∙ ap (isSet 0) (sym (c .before .u16-at .ensures))
     ∙ sym (c .first .ensures)
 
 returns-2 : tie.Need-returns-2
@@ -57,13 +57,13 @@ returns-2 c =
     let s = e .before .before .before in
     let a = s .args in
     let i = e .before .holder in
-    sym (not-init-holds (now (a .s)) (now (a .places)) (a .n) (s .pre .0) (s .pre .1) (a .offset) (i .result)
+    sym (not-init-holds (now (a .pages)) (now (a .places)) (a .n) (s .pre .0) (s .pre .1) (a .offset) (i .result)
     (i .ensures .0) (e .if1 .left) (init-read (c .before) ∙ not-true (c .before .first .result) (c .if2 .taken)))
 
 -- Past the second test, the component is init.
 init : (c : tie.Else2) → let i = c .before .before .before .before .before .holder .result in
     let a = c .before .before .before .before .before .before .before .args in
-    componentAt (now (a .s)) (getD (now (a .places)) i 0) .init ≡ true
+    componentAt (now (a .pages)) (getD (now (a .places)) i 0) .init ≡ true
 init c = init-read (c .before) ∙ not-false (c .before .first .result) (c .if2 .left)
 
 home-at-requires : tie.Need-home-at-requires
@@ -72,7 +72,7 @@ home-at-requires c κs =
     let s = e .before .before .before in
     let a = s .args in (
       within e,
-      valid-init (now (a .s)) (now (a .places)) (a .n) (s .pre .0) (s .pre .1) (e .before .holder .result)
+      valid-init (now (a .pages)) (now (a .places)) (a .n) (s .pre .0) (s .pre .1) (e .before .holder .result)
           (e .if1 .left) (init c),
     )
 
@@ -84,7 +84,7 @@ returns-3 c =
     let a = s .args in
     let i = e .before .holder in
     ap (λ (h : Home). gives (some h)) (c .home-at .ensures)
-    ∙ sym (init-holds (now (a .s)) (now (a .places)) (a .n) (s .pre .0) (s .pre .1) (a .offset) (i .result)
+    ∙ sym (init-holds (now (a .pages)) (now (a .places)) (a .n) (s .pre .0) (s .pre .1) (a .offset) (i .result)
     (i .ensures .0) (e .if1 .left) (init (c .before)))
 
 pub lookup-spec : {M : Type 1} → statement M

@@ -14,7 +14,7 @@ returns c =
     let s = c .before .before .before in
     let a = s .args in
     let i = c .before .owner in
-    sym (not-owned (now (a .s)) (now (a .places)) (a .n) (s .pre .0) (s .pre .1) (objectOf (a .target) (a .number))
+    sym (not-owned (now (a .pages)) (now (a .places)) (a .n) (s .pre .0) (s .pre .1) (objectOf (a .target) (a .number))
     (a .byte) (i .result) (i .ensures .0) (c .if1 .taken))
 
 byte-at-requires : tie.Need-byte-at-requires
@@ -24,7 +24,7 @@ byte-at-requires c κs =
     let a = s .args in
     let i = e .before .owner in (
       s .pre .0 .2 (i .result) (e .if1 .left),
-      owner-init (now (a .s)) (now (a .places)) (a .n) (s .pre .0) (s .pre .1) (objectOf (a .target) (a .number))
+      owner-init (now (a .pages)) (now (a .places)) (a .n) (s .pre .0) (s .pre .1) (objectOf (a .target) (a .number))
           (a .byte) (i .result) (i .ensures .0) (e .if1 .left),
     )
 
@@ -35,7 +35,7 @@ returns-2 c =
     let a = s .args in
     let i = e .before .owner in
     c .byte-at .ensures
-    ∙ owned (now (a .s)) (now (a .places)) (a .n) (s .pre .0) (s .pre .1) (objectOf (a .target) (a .number))
+    ∙ owned (now (a .pages)) (now (a .places)) (a .n) (s .pre .0) (s .pre .1) (objectOf (a .target) (a .number))
     (a .byte) (i .result) (i .ensures .0) (e .if1 .left)
 
 pub back-spec : {M : Type 1} → statement M

@@ -12,7 +12,7 @@ use Rattle.placed_mapping.proofs.objects.byte_at.Tie as tie
 -- The numbers that were read are the component's begin, end, stripe size and stripe count.
 read : (c : tie.After-u16-at) → let size = c .before in let end = size .before in let begin = end .before in
     let a = begin .before .before .before .args in
-    let x = componentAt (now (a .s)) (a .at) in
+    let x = componentAt (now (a .pages)) (a .at) in
     (x .begin ≡ begin .u64-at .result)
     × (x .end ≡ end .u64-at2 .result)
     × (x .«stripe_size» ≡ size .u32-at .result)
@@ -22,7 +22,7 @@ read c =
     let end = size .before in
     let begin = end .before in
     let a = begin .before .before .before .args in
-    let s = now (a .s) in (
+    let s = now (a .pages) in (
       begin-at s (a .at) ∙ sym (begin .u64-at .ensures),
       end-at s (a .at) ∙ sym (end .u64-at2 .ensures),
       stripe-size-at s (a .at) ∙ sym (size .u32-at .ensures),

@@ -42,13 +42,13 @@ loop-holds c = (search needs, sym (zero-add _))
 has : (c : tie.After-record-count Inv-loop μ-loop) → let p = c .before .before .before .before in
     let a = p .before .before .args in
     elem sameObject (objectOf (a .target) (a .number))
-    (recordsOf (componentAt (now (a .s)) (getD (now (a .places)) (p .loop .i) 0)))
+    (recordsOf (componentAt (now (a .pages)) (getD (now (a .places)) (p .loop .i) 0)))
     ≡ ltb (c .before .position-at .result) (c .record-count .result)
 has c =
     let p = c .before .before .before .before in
     let a = p .before .before .args in
     let at = getD (now (a .places)) (p .loop .i) 0 in
-    position-elem (objectOf (a .target) (a .number)) (recordsOf (componentAt (now (a .s)) at))
+    position-elem (objectOf (a .target) (a .number)) (recordsOf (componentAt (now (a .pages)) at))
     ∙ rw (← c .before .position-at .ensures .0, records-length, ← c .record-count .ensures .0)
 
 -- The test of a component.
@@ -60,7 +60,7 @@ returns c =
     let turn = c .before .before .before .before in
     let s = turn .before .before .before in
     let a = s .args in (
-      first-here (now (a .s)) (now (a .places)) (a .n) (s .pre .0) (s .pre .1) (owns s) _ _ (turn .before .loop .inv .1)
+      first-here (now (a .pages)) (now (a .places)) (a .n) (s .pre .0) (s .pre .1) (owns s) _ _ (turn .before .loop .inv .1)
           (turn .loop-test .taken) (has (c .before) ∙ lt-ltb _ _ (c .if1 .taken)),
       omega arith,
     )
@@ -71,7 +71,7 @@ loop-again c =
     let s = turn .before .before .before in
     let a = s .args in (
       omega arith,
-      first-later (now (a .s)) (now (a .places)) (a .n) (s .pre .0) (s .pre .1) (owns s) _ _ (turn .before .loop .inv .1)
+      first-later (now (a .pages)) (now (a .places)) (a .n) (s .pre .0) (s .pre .1) (owns s) _ _ (turn .before .loop .inv .1)
           (turn .loop-test .taken) (has (c .before) ∙ le-ltb _ _ (c .if1 .left)),
     )
 
@@ -79,14 +79,14 @@ returns-2 : tie.Need-returns-2 Inv-loop μ-loop
 returns-2 c =
     let s = c .before .before .before in
     let a = s .args in (
-      first-none (now (a .s)) (now (a .places)) (a .n) (s .pre .0) (s .pre .1) (owns s) _ _ (c .before .loop .inv .1)
+      first-none (now (a .pages)) (now (a .places)) (a .n) (s .pre .0) (s .pre .1) (owns s) _ _ (c .before .loop .inv .1)
           (c .loop-test .left),
       omega arith,
     )
 
 -- The component at place i ends by the end of the bytes.
 within : (c : tie.In-loop Inv-loop μ-loop) → let a = c .before .before .before .args in
-    behind (now (a .s)) (getD (now (a .places)) (c .before .loop .i) 0) ≤ length (now (a .s))
+    behind (now (a .pages)) (getD (now (a .places)) (c .before .loop .i) 0) ≤ length (now (a .pages))
 within c = c .before .before .before .pre .0 .2 (c .before .loop .i) (c .loop-test .taken)
 
 pub owner-spec : {M : Type 1} → statement M

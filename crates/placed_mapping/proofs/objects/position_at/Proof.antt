@@ -29,15 +29,15 @@ loop-holds : tie.Need-loop-holds Inv-loop μ-loop
 loop-holds c =
     (search needs, rw (component-records, ← c .record-count .ensures .0, zero-add, add-zero, sub-zero))
 
--- The object records from i on are record i and those behind it.
+-- The object records from i on are record i and those after it.
 next : (c : tie.In-loop Inv-loop μ-loop) → let i = c .before .loop .i in
     let n = c .before .before .record-count .result in
     let a = c .before .before .before .before .args in
-    objectsAt (n - i) (now (a .s)) (a .at + 40 + 16 * i)
-    ≡ objectAt (now (a .s)) (a .at + 40 + 16 * i) ∷ objectsAt (n - (i + 1)) (now (a .s)) (a .at + 40 + 16 * (i + 1))
+    objectsAt (n - i) (now (a .pages)) (a .at + 40 + 16 * i)
+    ≡ objectAt (now (a .pages)) (a .at + 40 + 16 * i) ∷ objectsAt (n - (i + 1)) (now (a .pages)) (a .at + 40 + 16 * (i + 1))
 next c =
     let a = c .before .before .before .before .args in
-    objects-at-turn (now (a .s)) (a .at + 40) (c .before .before .record-count .result) (c .before .loop .i)
+    objects-at-turn (now (a .pages)) (a .at + 40) (c .before .before .record-count .result) (c .before .loop .i)
     (c .loop-test .taken)
 
 returns : tie.Need-returns Inv-loop μ-loop
@@ -63,7 +63,7 @@ returns-2 c =
     let p = c .before in
     let a = p .before .before .before .args in
     let n = p .before .record-count .result in
-    let done = objects-at-done (now (a .s)) (a .at + 40) n (p .loop .i) (c .loop-test .left) in
+    let done = objects-at-done (now (a .pages)) (a .at + 40) n (p .loop .i) (c .loop-test .left) in
     (sym (p .loop .inv .1 ∙ rw done (add-zero _)), omega arith)
 
 pub position-at-spec : {M : Type 1} → statement M

@@ -1,4 +1,4 @@
--- What is chosen from a single record, where s are to be chosen, and what becomes of it.
+-- What is chosen from a single record, if s are to be chosen, and what becomes of it.
 use Prim.Native.Nat.{ℕ, zero, suc, _+_, _<_}
 use mathlib.Core.Path.{_≡_}
 use mathlib.Core.List.{[], _∷_}
@@ -12,12 +12,12 @@ use Rattle.free_table.specs.Choosing.{nextObject, chosen, raisedFirst}
 use Rattle.free_table.specs.ChoosingLaws.{chosen-none, chosen-nil, chosen-cons}
 
 module _ (ok : TargetRecord → Bool) (r : TargetRecord) where
-  -- Where it passes, and some are to be chosen, it is chosen;
+  -- If it passes, and some are to be chosen, it is chosen;
   pub one-taken : (s : ℕ) → 0 < s → ok r ≡ true → chosen ok s (r ∷ []) ≡ nextObject r ∷ []
   one-taken zero h e = absurd (omega arith)
   one-taken (suc s) h e = rw (chosen-cons ok s r [], e, chosen-nil ok s)
 
-  -- where it does not pass, it is not.
+  -- if it does not pass, it is not.
   pub one-passed : (s : ℕ) → ok r ≡ false → chosen ok s (r ∷ []) ≡ []
   one-passed zero e = chosen-none ok (r ∷ [])
   one-passed (suc s) e = rw (chosen-cons ok s r [], e, chosen-nil ok (suc s))

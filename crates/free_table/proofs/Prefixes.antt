@@ -19,7 +19,7 @@ use Rattle.free_table.specs.Choosing.{chosen, raisedFirst, choiceOf, wit
 use Rattle.free_table.specs.ChoosingLaws.{chosen-append, raised-append, length-raised}
 use Rattle.free_table.proofs.OneRecord.{one-raised}
 
--- A choice of some objects with more behind them is the choice of both.
+-- A choice of some objects with more after them is the choice of both.
 more-chosen : (os more : List Object) → withMore (choiceOf os) more ≡ choiceOf (os ++ more)
 unfolding packObjects
 more-chosen os more =
@@ -28,7 +28,7 @@ more-chosen os more =
     sym (sets-append (replicate 16 noObject) 0 os more ∙ rw zero-add) in
     λ i. record { count = n i; objects = x i }
 
--- Where the targets of at most 16 objects are at most n, so is that in the first place that they are packed into, blank or not.
+-- If the targets of at most 16 objects are at most n, so is that in the first place that they are packed into, blank or not.
 pub first-packed : (os : List Object) (n : ℕ) → length os ≤ 16 → ((i : ℕ) → i < length os → getD os i noObject .target ≤ n)
     → getD (packObjects os) 0 noObject .target ≤ n
 unfolding packObjects
@@ -48,9 +48,9 @@ module _ (ok : TargetRecord → Bool) (s : ℕ) (rs : List TargetRecord) (r : Ta
       ∙ more-chosen (chosen ok s rs) (chosen ok (s - length (chosen ok s rs)) (r ∷ []))
       ∙ ap choiceOf (sym (chosen-append ok s rs (r ∷ [])))
 
-  -- Behind them `left` are still to be chosen, and k are from the next record.
+  -- After them `left` are still to be chosen, and k are from the next record.
   module _ (left k : ℕ) (e : left ≡ s - length (chosen ok s rs)) (q : k ≡ length (chosen ok left (r ∷ []))) where
-    -- So many are still to be chosen behind that,
+    -- So many are still to be chosen after that,
     pub left-more : left - k ≡ s - length (chosen ok s (rs ++ (r ∷ [])))
     left-more =
         let p : k ≡ length (chosen ok (s - length (chosen ok s rs)) (r ∷ [])) = rw e at q in

@@ -1,4 +1,4 @@
--- Choosing targets. What stands in quotes is document 01's. The test of a record, `ok`, is that its target is usable.
+-- Choosing targets. What is in quotes is document 01's. The test of a record, `ok`, is that its target is usable.
 use Prim.Native.Nat.{ℕ, zero, suc, _+_}
 use mathlib.Core.List.{List, [], _∷_, map}
 use mathlib.Core.Bool.{Bool, cond}
@@ -24,11 +24,11 @@ passing ok [] = []
 passing ok (r ∷ rs) = cond (ok r) (r ∷ passing ok rs) (passing ok rs)
 
 -- "Choosing S targets takes the S usable ones with the lowest targets, in that order, each with its next number": the first s
--- that pass, since targets rise in the table. They are fewer than s where fewer pass.
+-- that pass, since targets rise in the table. They are fewer than s if fewer pass.
 unfoldable pub chosen : (TargetRecord → Bool) → ℕ → List TargetRecord → List Object
 chosen ok s rs = map nextObject (take s (passing ok rs))
 
--- The table behind the choice: the next numbers of the first s records that pass are raised. "Nothing else in the table
+-- The table after the choice: the next numbers of the first s records that pass are raised. "Nothing else in the table
 -- changes."
 abbrev pub raisedFirst : (TargetRecord → Bool) → ℕ → List TargetRecord → List TargetRecord
 raisedFirst ok s [] = []
@@ -39,6 +39,6 @@ raisedFirst ok (suc s) (r ∷ rs) = cond (ok r) (raised r ∷ raisedFirst ok s r
 abbrev pub choiceOf : List Object → Choice
 choiceOf os = record { count = length os; objects = packObjects os }
 
--- A choice with more objects behind its own.
+-- A choice with more objects after its own.
 abbrev pub withMore : Choice → List Object → Choice
 withMore choice os = record { count = choice .count + length os; objects = sets (choice .objects) (choice .count) os }

@@ -55,13 +55,13 @@ next-once from (r ∷ rs) e o =
     (λ q. rw q (omega (arith, next-once (r .target + 1) rs (p .2) o)))
 
 -- The first elements of a list, counted, are the first as many.
-take-count : {A : Type 0} (s : ℕ) (l : List A) → take (length (take s l)) l ≡ take s l
+pub take-count : {A : Type 0} (s : ℕ) (l : List A) → take (length (take s l)) l ≡ take s l
 take-count zero l = refl
 take-count (suc s) [] = refl
 take-count {A} (suc s) (a ∷ l) = ap (λ (m : List A). a ∷ m) (take-count s l)
 
 module _ (ok : TargetRecord → Bool) where
-  -- Where none is to be chosen, or the table is empty, none is.
+  -- If none is to be chosen, or the table is empty, none is.
   pub chosen-none : (rs : List TargetRecord) → chosen ok 0 rs ≡ []
   unfolding chosen
   chosen-none rs = refl
@@ -89,12 +89,12 @@ module _ (ok : TargetRecord → Bool) where
       rw (length-map (take s (passing ok rs)) nextObject)
       (ap (λ (qs : List TargetRecord). map nextObject qs) (take-count s (passing ok rs)))
 
-  -- Where none is to be chosen, nothing is raised.
+  -- If none is to be chosen, nothing is raised.
   pub raised-none : (rs : List TargetRecord) → raisedFirst ok 0 rs ≡ rs
   raised-none [] = refl
   raised-none (r ∷ rs) = refl
 
-  -- Of two lists of records, one behind the other, the second is asked for what the first leaves to be chosen,
+  -- Of two lists of records, one after the other, the second is asked for what the first leaves to be chosen,
   pub chosen-append : (s : ℕ) (rs qs : List TargetRecord)
       → chosen ok s (rs ++ qs) ≡ chosen ok s rs ++ chosen ok (s - length (chosen ok s rs)) qs
   chosen-append s [] qs = rw (chosen-nil s, sub-zero s)
@@ -116,7 +116,7 @@ module _ (ok : TargetRecord → Bool) where
       (λ e. rw (e, suc-sub-suc) (ap (λ (ts : List TargetRecord). raised r ∷ ts) (raised-append s rs qs)))
       (λ e. rw e (ap (λ (ts : List TargetRecord). r ∷ ts) (raised-append (suc s) rs qs))))
 
-  -- The table behind the choice has as many records.
+  -- The table after the choice has as many records.
   pub length-raised : (s : ℕ) (rs : List TargetRecord) → length (raisedFirst ok s rs) ≡ length rs
   length-raised s [] = refl
   length-raised zero (r ∷ rs) = refl

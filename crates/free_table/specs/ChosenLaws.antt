@@ -19,7 +19,7 @@ use Rattle.free_table.specs.Choosing.{nextObject, raised, passing, chose
 use Rattle.free_table.specs.TableLaws.{first-rises, target-above}
 use Rattle.free_table.specs.ChoosingLaws.{next-at, chosen-none, chosen-cons, chosen-above}
 
--- The record stands at a place of the table and passes the test.
+-- The record is at a place of the table and passes the test.
 abbrev PlaceOf : (TargetRecord → Bool) → List TargetRecord → TargetRecord → Type 0
 PlaceOf ok rs q = (i : ℕ) × (i < length rs) × (ok (getD rs i noRecord) ≡ true) × (q ≡ getD rs i noRecord)
 
@@ -37,11 +37,11 @@ abbrev pub ChosenOrHigher : ℕ → List Object → TargetRecord → Type 0
 ChosenOrHigher s os r =
     (elem sameObject (nextObject r) os ≡ true) ⊎ ((length os ≡ s) × AllBelow os (r .target))
 
--- A record, raised where its next object is one of these.
+-- A record, raised if its next object is one of these.
 abbrev pub raisedIn : List Object → TargetRecord → TargetRecord
 raisedIn os r = cond (elem sameObject (nextObject r) os) (raised r) r
 
--- With one more object in front, what stood among them still does,
+-- With one more object in front, what was among them still is,
 elem-behind : (x o : Object) (os : List Object) → elem sameObject x os ≡ true → elem sameObject x (o ∷ os) ≡ true
 elem-behind x o os e = bool-cases (sameObject x o) (λ q. rw q) (λ q. rw q e)
 
@@ -50,7 +50,7 @@ below-cons : (o : Object) (os : List Object) (target : ℕ) → o .target < targ
 below-cons o os target h f zero k = h
 below-cons o os target h f (suc j) k = f j (omega arith)
 
--- Where nothing is chosen, no record is raised,
+-- If nothing is chosen, no record is raised,
 raised-in-none : (rs : List TargetRecord) → map (raisedIn []) rs ≡ rs
 raised-in-none [] = refl
 raised-in-none (r ∷ rs) = ap (λ (qs : List TargetRecord). r ∷ qs) (raised-in-none rs)
@@ -75,7 +75,7 @@ module _ (ok : TargetRecord → Bool) where
       (λ q. absurd (omega (arith, elem-true sameObject o (chosen ok s rs) q, chosen-above ok from s rs e o h)))
       (λ q. q)
 
-  -- Each record that passes stands in the table.
+  -- Each record that passes is in the table.
   place-behind : (r q : TargetRecord) (rs : List TargetRecord) → PlaceOf ok rs q → PlaceOf ok (r ∷ rs) q
   place-behind r q rs p = (suc (p .0), omega (arith, p .1), p .2, p .3)
 

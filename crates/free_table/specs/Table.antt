@@ -1,4 +1,4 @@
--- The free table: its records, refusal 15, and which targets are low and which usable. What stands in quotes is document
+-- The free table: its records, refusal 15, and which targets are low and which usable. What is in quotes is document
 -- 01's.
 use Prim.Native.Nat.{ℕ, _+_}
 use mathlib.Core.List.{List, [], _∷_}
@@ -11,7 +11,7 @@ use Rattle.layout.specs.declared.Object.{Object}
 use Rattle.free_table.specs.declared.TargetRecord.{TargetRecord}
 use Rattle.free_table.specs.declared.Table.{Table}
 
--- What stands in the unused places of a table.
+-- What is in the unused places of a table.
 abbrev pub noRecord : TargetRecord
 noRecord = record { target = 0; free = 0; next = 0 }
 
@@ -19,15 +19,15 @@ noRecord = record { target = 0; free = 0; next = 0 }
 abbrev pub tableOf : Table → List TargetRecord
 tableOf t = take (t .count) (t .records)
 
--- A table with other records in its first places. What stands behind them stays.
+-- A table with other records in its first places. What is after them stays.
 abbrev pub withRecords : Table → List TargetRecord → Table
 withRecords t rs = record { count = t .count; records = sets (t .records) 0 rs }
 
--- "targets strictly rising and at most 65,534": `from` is the lowest target that may stand here.
+-- "targets strictly rising and at most 65,534": `from` is the lowest target that may be here.
 abbrev pub targetOk : ℕ → TargetRecord → Bool
 targetOk from r = leb from (r .target) && leb (r .target) 65534
 
--- The lowest target that may stand behind a record.
+-- The lowest target that may be after a record.
 abbrev pub targetAbove : ℕ → TargetRecord → ℕ
 targetAbove from r = r .target + 1
 

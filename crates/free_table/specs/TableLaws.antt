@@ -11,7 +11,7 @@ use Rattle.lists.specs.Bools.{both-true, true-both}
 use Rattle.free_table.specs.declared.TargetRecord.{TargetRecord}
 use Rattle.free_table.specs.Table.{noRecord, rising, freeBelow, isLow, usable}
 
--- What the first record of a rising table says: its target is in bounds, and those behind it are above it.
+-- What the first record of a rising table says: its target is in bounds, and those after it are above it.
 module _ (from : ℕ) (r : TargetRecord) (rs : List TargetRecord) where
   pub first-rises : rising from (r ∷ rs) ≡ true → (from ≤ r .target) × (r .target ≤ 65534) × (rising (r .target + 1) rs ≡ true)
   first-rises e =
@@ -42,7 +42,7 @@ target-most from [] e i h = absurd (omega arith)
 target-most from (r ∷ rs) e zero h = first-rises from r rs e .1
 target-most from (r ∷ rs) e (suc i) h = target-most (r .target + 1) rs (first-rises from r rs e .2) i (omega arith)
 
--- and each is below those behind it.
+-- and each is below those after it.
 pub target-rises : (from : ℕ) (rs : List TargetRecord) → rising from rs ≡ true → (i j : ℕ) → i < j → j < length rs
     → getD rs i noRecord .target < getD rs j noRecord .target
 target-rises from [] e i j h k = absurd (omega arith)

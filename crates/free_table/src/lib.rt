@@ -18,7 +18,7 @@ pub struct TargetRecord {
     pub next: u64,
 }
 
-// A free table: its records stand in the first `count` places. A table has at most 64 records; the place more is there
+// A free table: its records are in the first `count` places. A table has at most 64 records; the place more is there
 // so that a table with too many is told from one with 64.
 pub struct Table {
     pub count: usize,
@@ -124,7 +124,7 @@ fn is_usable(mark: u64, r: TargetRecord) -> bool
     !free_below(mark, r) & (r.next < 18446744073709551615)
 }
 
-// How many are chosen from one record where `left` are still to be chosen: 1 where its target is usable, else 0.
+// How many are chosen from one record if `left` are still to be chosen: 1 if its target is usable, else 0.
 fn taken(mark: u64, left: usize, r: TargetRecord) -> usize
     ensures { λ k. ⌜ (k ≡ length (chosen (usable mark) left (r ∷ [])))
         × (k ≤ left)
@@ -157,7 +157,7 @@ fn choose_next(choice: Choice, mark: u64, s: usize, r: TargetRecord) -> Choice
     more
 }
 
-// Chooses s targets; fewer where fewer are usable.
+// Chooses s targets; fewer if fewer are usable.
 pub fn choose(t: Table, mark: u64, s: usize) -> Choice
     requires { ⌜ (s ≤ 16) × (tableOk (tableOf t) ≡ true) ⌝ }
     ensures { λ r. ⌜ (r ≡ choiceOf (chosen (usable mark) s (tableOf t)))

@@ -1,12 +1,12 @@
 -- Laws of what a call gives: of tables given back as they were, and of a home that a lookup finds.
-use Prim.Native.Nat.{ℕ, zero, suc}
-use mathlib.Core.Path.{_≡_, refl, sym, _∙_}
-use mathlib.Core.List.{List, [], _∷_, _++_}
+use Prim.Native.Nat.{ℕ}
+use mathlib.Core.Path.{_≡_, refl, sym, ap, _∙_}
+use mathlib.Core.List.{List, _++_}
 use mathlib.Core.Bool.{Bool, true, false}
 use mathlib.Core.Option.{Option, none, some}
 use native.Mathlib.Omega.{arith}
 use native.Mathlib.Nat.{zero-add}
-use lib.ListN.{length, take, drop, length-take}
+use lib.ListN.{length, take, drop, length-take, take-append-drop}
 use lib.Seq.{sets, sets-eq}
 use Rattle.layout.specs.declared.Component.{Component}
 use Rattle.layout.specs.Facts.{Keeps}
@@ -17,16 +17,14 @@ use Rattle.mapping.specs.Lookup.{lookupIn}
 use Rattle.mapping.specs.HomeLaws.{lookup-home}
 use Rattle.free_table.specs.declared.Table.{Table}
 use Rattle.free_table.specs.Table.{tableOf, withRecords}
+use Rattle.free_table.specs.ChoosingLaws.{take-count}
 
--- The first n elements of a list and those behind them are the list.
-joined : {A : Type 0} (n : ℕ) (l : List A) → take n l ++ drop (length (take n l)) l ≡ l
-joined zero l = refl
-joined (suc n) [] = refl
-joined (suc n) (a ∷ l) = rw (joined n l)
-
--- The first elements of a list stored where they stand leave the list as it was.
+-- The first elements of a list stored where they are leave the list as it was.
 stored-same : {A : Type 0} (l : List A) (n : ℕ) → sets l 0 (take n l) ≡ l
-stored-same l n = sets-eq (take n l) l 0 (omega (arith, length-take n l)) ∙ rw zero-add (joined n l)
+stored-same {A} l n =
+    let m = length (take n l) in
+    sets-eq (take n l) l 0 (omega (arith, length-take n l))
+    ∙ rw zero-add (ap (λ (t : List A). t ++ drop m l) (sym (take-count n l)) ∙ take-append-drop m l)
 
 -- A table with its own records is the same table.
 pub same-table : (t : Table) → t ≡ withRecords t (tableOf t)
@@ -34,7 +32,7 @@ same-table t =
     let e : t .records ≡ sets (t .records) 0 (tableOf t) = sym (stored-same (t .records) (t .count)) in
     λ i. record { count = t .count; records = e i }
 
--- No home is given, where each is ruled out.
+-- No home is given, if each is ruled out.
 not-given : (o : Option Home) → ((h : Home) → o ≡ some h → ⊥) → isGiven o ≡ false
 not-given none f = refl
 not-given (some h) f = absurd (f h refl)

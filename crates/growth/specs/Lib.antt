@@ -4,4 +4,4 @@ pub mod Plans
 pub mod SpliceLaws
 pub mod PlanLaws
 pub mod PlanCases
-pub mod SettlingLaws
+pub mod OutcomeLaws

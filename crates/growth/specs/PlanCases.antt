@@ -18,19 +18,19 @@ use Rattle.free_table.specs.Table.{anyLow}
 use Rattle.growth_rules.specs.Parts.{withExtent, freshId}
 use Rattle.growth_rules.specs.Steps.{Call, Step, heldStep, extensionStep}
 use Rattle.growth_rules.specs.Growing.{stepOf}
-use Rattle.growth_rules.specs.StepLaws.{behindAll, held-step, extension-step}
+use Rattle.growth_rules.specs.StepLaws.{stepAfterAll, held-step, extension-step}
 use Rattle.growth.specs.declared.Plan.{Plan}
 use Rattle.growth.specs.Plans.{planSays, noPlan, replacing, granting, choosingPlan, heldPlan, followPlan, spillPlan}
 use Rattle.growth.specs.Plans.{lowPlan, extensionPlan, PlanFor}
 use Rattle.growth.specs.PlanLaws.{Means, held-means, extension-means}
 
--- A component of the first n of an array has at most 16 stripes, where the rule of the fields holds of them.
+-- A component of the first n of an array has at most 16 stripes, if the rule of the fields holds of them.
 pub few-stripes : (list : List Component) (n : ℕ) → Fields (take n list) → (d : Component) (i : ℕ) → i < n → n ≤ length list
     → getD list i d .«stripe_count» ≤ 16
 few-stripes list n f d i h w =
     rw (← getD-take n list i d h) (kind-few (kind-at (take n list) f d i (omega (arith, length-take n list))))
 
--- The component that follows has as many stripes as the one that stands for it.
+-- The component that follows has as many stripes as the one that replaces it.
 pub follow-count : (j : ℕ) (m : Component) (cs : List Component) → followPlan j m cs .made .«stripe_count» ≡ m .«stripe_count»
 unfolding followPlan
 follow-count j m [] = refl
@@ -95,7 +95,7 @@ module _ (mark : ℕ) (rs : List TargetRecord) where
     unfolding extensionPlan
     extension-low e f = ap extendBy e ∙ ap initBy f
 
--- The components behind a position keep the rule of the fields.
+-- The components after a position keep the rule of the fields.
 fields-drop : (j : ℕ) (cs : List Component) → Fields cs → Fields (drop j cs)
 fields-drop zero cs f = f
 fields-drop (suc j) [] f = f
@@ -109,12 +109,12 @@ module _ (l : Layout) (v : Valid l) (k : Call) (i : ℕ) (at : i ≡ holderOf (k
   below : i < length cs
   below = omega (arith, v .whole)
 
-  -- A plan that says the step of the components behind position j is the plan of the call.
+  -- A plan that says the step of the components after position j is the plan of the call.
   plan-for : (j : ℕ) (p : Plan) (rest : List Component) (s : Step) → take j cs ++ rest ≡ cs → Means (take j cs) rest p s
-      → behindAll (take j cs) s ≡ stepOf l k → PlanFor l k p
+      → stepAfterAll (take j cs) s ≡ stepOf l k → PlanFor l k p
   plan-for j p rest s whole m e =
       record {
-        says = subst (λ (all : List Component). planSays p all ≡ behindAll (take j cs) s) whole (m .says) ∙ e;
+        says = subst (λ (all : List Component). planSays p all ≡ stepAfterAll (take j cs) s) whole (m .says) ∙ e;
         within = omega (arith, m .within, ap length whole, v .whole);
         few = m .few;
         counted = m .counted;

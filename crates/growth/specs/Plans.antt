@@ -18,16 +18,16 @@ use Rattle.growth_rules.specs.Growing.{meets, stepOf}
 use Rattle.growth.specs.declared.Plan.{Plan}
 
 -- What a plan puts in place of its `old` components, before those that follow them.
-abbrev pub standing : Plan → List Component → List Component
-standing p cs = p .made ∷ cond (p .leaves) (p .left ∷ cs) cs
+abbrev pub replacement : Plan → List Component → List Component
+replacement p cs = p .made ∷ cond (p .leaves) (p .left ∷ cs) cs
 
 -- How many components these are.
-abbrev pub standingCount : Plan → ℕ
-standingCount p = cond (p .leaves) 2 1
+abbrev pub replacementCount : Plan → ℕ
+replacementCount p = cond (p .leaves) 2 1
 
 -- The components by a plan.
 abbrev pub planned : Plan → List Component → List Component
-planned p cs = take (p .at) cs ++ standing p (drop (p .old) (drop (p .at) cs))
+planned p cs = take (p .at) cs ++ replacement p (drop (p .old) (drop (p .at) cs))
 
 -- The object records that a plan has chosen.
 abbrev pub plannedObjects : Plan → List Object
@@ -116,7 +116,7 @@ module _ (mark : ℕ) (rs : List TargetRecord) where
   unfoldable pub heldPlan : ℕ → Component → Plan
   heldPlan i c = cond (c .init || c .extension) (noPlan false c) (choosingPlan (replacing i 1 c))
 
-  -- Spill-over onto n, behind the extension x at position j + 1, before the components cs.
+  -- Spill-over onto n, after the extension x at position j + 1, before the components cs.
   unfoldable pub spillPlan : ℕ → Component → Component → List Component → Plan
   spillPlan j x n cs =
       let m = withExtent (x .begin) (n .end) n in
@@ -134,7 +134,7 @@ module _ (mark : ℕ) (rs : List TargetRecord) where
     lowPlan [] = repeatPlan
     lowPlan (n ∷ cs) = spillPlan j x n cs
 
-  -- The second of the components, which stand from position j on, is an extension and holds the offset.
+  -- The second of the components, which are from position j on, is an extension and holds the offset.
   unfoldable pub extensionPlan : ℕ → ℕ → List Component → Plan
   extensionPlan new j [] = noPlan false noComponent
   extensionPlan new j (c ∷ []) = noPlan false c

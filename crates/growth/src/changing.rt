@@ -6,7 +6,7 @@ ghost use mathlib.Core.Path.{_≡_};
 ghost use Prim.Native.Nat.{_+_, _-_, _<_, _≤_};
 ghost use lib.Seq.{sets, slice};
 ghost use Rattle.layout.specs.Records.{view, packed};
-ghost use Rattle.growth.specs.Plans.{planned, standing, standingCount};
+ghost use Rattle.growth.specs.Plans.{planned, replacement, replacementCount};
 
 // Copies the components from `from` up to `to` to the places from `at` on.
 fn copy(
@@ -30,10 +30,10 @@ fn copy(
     r
 }
 
-// The array with what the plan puts there in place of its `old` components, and the others of the first n behind it.
+// The array with what the plan puts there in place of its `old` components, and the others of the first n after it.
 fn spliced(list: [Component; 16], n: usize, p: Plan) -> [Component; 16]
-    requires { ⌜ (n ≤ 16) × (p .at + p .old ≤ n) × (n + standingCount p ≤ 16 + p .old) ⌝ }
-    ensures { λ r. ⌜ r ≡ sets list (p .at) (standing p (slice (p .at + p .old) n list)) ⌝ }
+    requires { ⌜ (n ≤ 16) × (p .at + p .old ≤ n) × (n + replacementCount p ≤ 16 + p .old) ⌝ }
+    ensures { λ r. ⌜ r ≡ sets list (p .at) (replacement p (slice (p .at + p .old) n list)) ⌝ }
 {
     let at = p.at;
     let from = at + p.old;
@@ -51,7 +51,7 @@ fn spliced(list: [Component; 16], n: usize, p: Plan) -> [Component; 16]
 // The number of components that the plan makes of n.
 pub fn planned_count(n: usize, p: Plan) -> usize
     requires { ⌜ (n ≤ 16) × (p .at + p .old ≤ n) ⌝ }
-    ensures { λ r. ⌜ r ≡ n - p .old + standingCount p ⌝ }
+    ensures { λ r. ⌜ r ≡ n - p .old + replacementCount p ⌝ }
 {
     let others = n - p.old;
     if p.leaves {
@@ -64,7 +64,7 @@ pub fn planned_count(n: usize, p: Plan) -> usize
 pub fn changed(l: Layout, p: Plan) -> Layout
     requires { ⌜ (l .count ≤ 16)
         × (p .at + p .old ≤ l .count)
-        × (l .count + standingCount p ≤ 16 + p .old)
+        × (l .count + replacementCount p ≤ 16 + p .old)
         × (l .generation < 4294967295) ⌝ }
     ensures { λ r. ⌜ r ≡ packed (l .generation + 1) (planned p (view l)) ⌝ }
 {

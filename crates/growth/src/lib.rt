@@ -11,8 +11,8 @@ ghost use Rattle.growth.specs.Answers.{callOf, GrownSays};
 
 pub mod changing;
 pub mod components;
+pub mod outcomes;
 pub mod plans;
-pub mod settling;
 
 // What an accepted call did: does the offset now have a home, and did the layout change?
 pub struct Effect {
@@ -28,7 +28,7 @@ pub enum GrowOut {
     Refused(u8),
 }
 
-// What a call of growth gives: its answer, and the layout and the free table afterwards. Where it is refused they are
+// What a call of growth gives: its answer, and the layout and the free table afterwards. If it is refused they are
 // those that were handed in.
 pub struct Grown {
     pub out: GrowOut,
@@ -37,7 +37,7 @@ pub struct Grown {
 }
 
 // What a step puts in place of components. It lacks usable targets, or it changes nothing, or the `old` components
-// from position `at` on give way to `made`, which is init, and to `left` behind it where an extension has bytes left.
+// from position `at` on give way to `made`, which is init, and to `left` after it if an extension has bytes left.
 // The first `chosen` object records of `made` are newly chosen.
 pub struct Plan {
     pub lacks: bool,
@@ -51,15 +51,15 @@ pub struct Plan {
 }
 
 // Makes one step of growth for the component that holds the offset. `mark` is the low mark in bytes. Refused by 1
-// where the layout is not valid, 10 where the offset lies at or past the last component's end, 15 where the table is
-// bad, 16 where too few targets are usable, 17 where 17 components would be left, 18 where a chosen target and number
-// already stand in the layout, 19 where a change is due and the generation is 2^32 - 1: layout and table are then
+// if the layout is not valid, 10 if the offset lies at or past the last component's end, 15 if the table is
+// bad, 16 if too few targets are usable, 17 if 17 components would be left, 18 if a chosen target and number
+// are in the layout already, 19 if a change is due and the generation is 2^32 - 1: layout and table are then
 // given back as they were.
 pub fn grow(l: Layout, offset: u64, mark: u64, t: Table) -> Grown
     ensures { λ r. ⌜ GrownSays t r (growOf l (callOf offset mark t)) ⌝ }
 {
     if !layout::is_valid(l) {
-        return settling::refused(1, l, t);
+        return outcomes::refused(1, l, t);
     }
     grow_valid(l, offset, mark, t)
 }
@@ -71,11 +71,11 @@ pub fn grow_valid(l: Layout, offset: u64, mark: u64, t: Table) -> Grown
 {
     let i = layout::holder(l, offset);
     if l.count <= i {
-        return settling::refused(10, l, t);
+        return outcomes::refused(10, l, t);
     }
     if !free_table::table_ok(t) {
-        return settling::refused(15, l, t);
+        return outcomes::refused(15, l, t);
     }
     let p = plans::plan_at(l, i, mark, t);
-    settling::settle(l, offset, mark, t, p)
+    outcomes::of_step(l, offset, mark, t, p)
 }

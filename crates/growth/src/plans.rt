@@ -53,7 +53,7 @@ fn replacing(at: usize, old: usize, made: Component) -> Plan
 }
 
 // The plan that puts c in place of `old` components from position `at` on, the last of which is the extension x: c
-// ends at the lower of `from` + the size of x and the end of x, and what is left of x stands behind it.
+// ends at the lower of `from` + the size of x and the end of x, and what is left of x is after it.
 fn granting(at: usize, old: usize, c: Component, x: Component, from: u64) -> Plan
     ensures { λ r. ⌜ r ≡ granting at old c x from ⌝ }
 {
@@ -100,8 +100,8 @@ fn held_plan(i: usize, c: Component, mark: u64, t: Table) -> Plan
     choosing(replacing(i, 1, c), mark, t)
 }
 
-// The component m, which begins where the extension at position j + 1 began, stands in place of that extension and of
-// the component behind it; an extension that follows these gives a part to m.
+// The component m, which begins where the extension at position j + 1 began, is in place of that extension and of
+// the component after it; an extension that follows these gives a part to m.
 fn follow_plan(list: [Component; 16], n: usize, j: usize, m: Component) -> Plan
     requires { ⌜ (n ≤ 16) × (j < n) ⌝ }
     ensures { λ r. ⌜ r ≡ followPlan j m (slice (j + 3) n list) ⌝ }
@@ -117,7 +117,7 @@ fn follow_plan(list: [Component; 16], n: usize, j: usize, m: Component) -> Plan
     granting(j + 1, 3, m, y, m.begin)
 }
 
-// Spill-over: the extension x at position j + 1 goes, and the component behind it, `next`, begins where x began.
+// Spill-over: the extension x at position j + 1 goes, and the component after it, `next`, begins where x began.
 fn spill_plan(
     list: [Component; 16],
     n: usize,
@@ -137,8 +137,8 @@ fn spill_plan(
     choosing(follow_plan(list, n, j, m), mark, t)
 }
 
-// Repeat: a new component like c, which stands at position j, stands before the extension x behind c and takes the
-// grant. Where too few targets are usable, c takes it: forced extension.
+// Repeat: a new component like c, which is at position j, is before the extension x after c and takes the
+// grant. If too few targets are usable, c takes it: forced extension.
 fn repeat_plan(j: usize, c: Component, x: Component, id: u16, mark: u64, t: Table) -> Plan
     requires { ⌜ (j < 16) × (c .«stripe_count» ≤ 16) × (tableOk (tableOf t) ≡ true) ⌝ }
     ensures { λ r. ⌜ r ≡ repeatPlan mark (tableOf t) id j c x ⌝ }

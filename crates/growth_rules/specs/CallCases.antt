@@ -17,7 +17,7 @@ use Rattle.layout.specs.Holder.{lastEnd}
 use Rattle.free_table.specs.Table.{usable, tableOk}
 use Rattle.free_table.specs.Choosing.{raisedFirst}
 use Rattle.growth_rules.specs.Steps.{Call, Step, stays, lacks, changes}
-use Rattle.growth_rules.specs.Growing.{Outcome, meets, stepOf, refusing, accepting, settling, growIn, growOf}
+use Rattle.growth_rules.specs.Growing.{Outcome, meets, stepOf, refusing, accepting, outcomeOf, growIn, growOf}
 
 -- "Growth: 1, 10, 15 to 19."
 abbrev pub growthRefusals : List ℕ
@@ -41,8 +41,8 @@ pub data Called (l : Layout) (k : Call) : Outcome → Type 0 where
 
 module _ (l : Layout) (k : Call) where
   -- The cases of a step, on a valid layout with a table that is not bad.
-  step-cases : valid l ≡ true → tableOk (k .table) ≡ true → (s : Step) → stepOf l k ≡ s → Called l k (settling l k s)
-  unfolding settling
+  step-cases : valid l ≡ true → tableOk (k .table) ≡ true → (s : Step) → stepOf l k ≡ s → Called l k (outcomeOf l k s)
+  unfolding outcomeOf
   step-cases v t stays e = unchanged
   step-cases v t lacks e = refused 16 refl
   step-cases v t (changes cs os) e =

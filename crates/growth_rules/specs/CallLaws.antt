@@ -1,4 +1,4 @@
--- What a call of growth gives, law by law. What stands in quotes is document 01's.
+-- What a call of growth gives, law by law. What is in quotes is document 01's.
 use Prim.Native.Nat.{ℕ, _+_, _≤_}
 use mathlib.Core.Path.{_≡_, refl, sym, ap}
 use mathlib.Core.List.{List, [], _∷_}
@@ -22,7 +22,7 @@ use Rattle.free_table.specs.Table.{usable, anyLow}
 use Rattle.free_table.specs.Choosing.{chosen, raisedFirst}
 use Rattle.free_table.specs.ChoosingLaws.{chosen-none, chosen-same}
 use Rattle.growth_rules.specs.Parts.{freshId}
-use Rattle.growth_rules.specs.Steps.{Call, Step, stays, lacks, changes, behind, choosing, heldStep, spillStep, lowStep}
+use Rattle.growth_rules.specs.Steps.{Call, Step, stays, lacks, changes, stepAfter, choosing, heldStep, spillStep, lowStep}
 use Rattle.growth_rules.specs.Steps.{extensionStep, stepOn}
 use Rattle.growth_rules.specs.Growing.{Effect, Outcome, stepOf, growOf}
 use Rattle.growth_rules.specs.CallCases.{growthRefusals, Called, refused, unchanged, grown, Grown, call-cases}
@@ -108,7 +108,7 @@ module _ (l : Layout) (k : Call) where
   outcome-table unchanged = inl refl
   outcome-table (grown cs os g) = inr record { components = cs; objects = os; why = g; layout = refl; table = refl }
 
-  -- The table behind a call is the one that was given, or that of a change.
+  -- The table after a call is the one that was given, or that of a change.
   pub call-table : (growOf l k .table ≡ k .table) ⊎ Changes (growOf l k)
   call-table = outcome-table (call-cases l k)
 
@@ -129,37 +129,37 @@ module _ (k : Call) where
   Choice lacks = Unit {0}
   Choice (changes cs os) = os ≡ chosen (usable (k .mark)) (length os) (k .table)
 
-  -- Where nothing is chosen.
+  -- If nothing is chosen.
   no-choice : [] ≡ chosen (usable (k .mark)) 0 (k .table)
   no-choice = sym (chosen-none (usable (k .mark)) (k .table))
 
-  -- A step behind a component.
-  behind-choice : (c : Component) (s : Step) → Choice s → Choice (behind c s)
-  behind-choice c stays h = tt
-  behind-choice c lacks h = tt
-  behind-choice c (changes cs os) h = h
+  -- A step after a component.
+  after-choice : (c : Component) (s : Step) → Choice s → Choice (stepAfter c s)
+  after-choice c stays h = tt
+  after-choice c lacks h = tt
+  after-choice c (changes cs os) h = h
 
-  -- Where object records are chosen, or something stands in for it.
+  -- If object records are chosen, or something is done instead.
   choosing-choice : (s : ℕ) (made : List Object → List Component) (other : Step) → Choice other → Choice (choosing k s made other)
   unfolding choosing
   choosing-choice s made other h =
       cond-elim Choice (eqb (length (chosen (usable (k .mark)) s (k .table))) s)
       (λ e. sym (chosen-same (usable (k .mark)) s (k .table))) (λ e. h)
 
-  -- Where a component that is no extension holds the offset.
+  -- If a component that is no extension holds the offset.
   held-choice : (c : Component) (cs : List Component) → Choice (heldStep k c cs)
   unfolding heldStep
   held-choice c cs = cond-elim Choice (c .init || c .extension) (λ e. tt) (λ e. choosing-choice (c .«stripe_count») _ lacks tt)
 
   module _ (new : ℕ) where
-    -- Where the component before the extension that holds it has a low target,
+    -- If the component before the extension that holds it has a low target,
     low-choice : (c x : Component) (cs : List Component) → Choice (lowStep k new c x cs)
     unfolding lowStep spillStep
     low-choice c x [] = choosing-choice (c .«stripe_count») _ _ no-choice
     low-choice c x (n ∷ cs) =
         cond-elim Choice (n .init) (λ e. no-choice) (λ e. choosing-choice (n .«stripe_count») _ lacks tt)
 
-    -- where an extension holds the offset,
+    -- if an extension holds the offset,
     extension-choice : (c x : Component) (cs : List Component) → Choice (extensionStep k new c x cs)
     unfolding extensionStep
     extension-choice c x cs =
@@ -175,7 +175,7 @@ module _ (k : Call) where
     step-choice (c ∷ x ∷ cs) =
         cond-elim Choice (holds c (k .offset)) (λ e. held-choice c (x ∷ cs))
         (λ e. cond-elim Choice (x .extension && holds x (k .offset)) (λ q. extension-choice c x cs)
-        (λ q. behind-choice c (stepOn k new (x ∷ cs)) (step-choice (x ∷ cs))))
+        (λ q. after-choice c (stepOn k new (x ∷ cs)) (step-choice (x ∷ cs))))
 
 -- "Choosing S targets takes the S usable ones with the lowest targets, in that order, each with its next number": a step takes
 -- its object records so, with S as many as they are.

@@ -27,7 +27,7 @@ pub record Demand3 (l : Layout) (ms : List Layout) : Type 0 where
   -- A byte that has a home at a moment has exactly that home at every later one.
   pub stay : (i j : ℕ) → i ≤ j → j < length ms → (b : ℕ) (h : Home) → homeOf b (view (getD ms i l)) ≡ some h
       → homeOf b (view (getD ms j l)) ≡ some h
-  -- Two different bytes, each looked at in any moment, have different homes where both have one.
+  -- Two different bytes, each looked at in any moment, have different homes if both have one.
   pub apart : (i j : ℕ) → i < length ms → j < length ms → (b b' : ℕ) → b ≢ b' → (h h' : Home)
       → homeOf b (view (getD ms i l)) ≡ some h → homeOf b' (view (getD ms j l)) ≡ some h' → h ≢ h'
   -- The stretch covered by all components together is exactly that of the start.

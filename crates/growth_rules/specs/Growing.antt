@@ -1,4 +1,4 @@
--- What a call of growth gives: the answer or the refusal, the layout and the table. What stands in quotes is document 01's.
+-- What a call of growth gives: the answer or the refusal, the layout and the table. What is in quotes is document 01's.
 use Prim.Native.Nat.{ℕ, _+_}
 use mathlib.Core.List.{List}
 use mathlib.Core.Bool.{Bool, true, false, cond}
@@ -56,10 +56,10 @@ module _ (l : Layout) (k : Call) where
   -- What a step gives: 16, "too few usable targets"; 17, "growth would leave 17 components"; 18; 19, "a change is due and the
   -- generation is 2^32 - 1"; else the changed layout, where "Each change adds 1 to the generation", and the table with the next
   -- numbers of the chosen targets raised.
-  unfoldable pub settling : Step → Outcome
-  settling stays = accepting false l (k .table)
-  settling lacks = refusing 16
-  settling (changes cs os) =
+  unfoldable pub outcomeOf : Step → Outcome
+  outcomeOf stays = accepting false l (k .table)
+  outcomeOf lacks = refusing 16
+  outcomeOf (changes cs os) =
       cond (ltb 16 (length cs)) (refusing 17)
       (cond (meets os (recordsIn (view l))) (refusing 18)
       (cond (eqb (l .generation) 4294967295) (refusing 19)
@@ -69,8 +69,8 @@ module _ (l : Layout) (k : Call) where
   -- what its step gives.
   unfoldable pub growIn : Outcome
   growIn =
-      cond (leb (lastEnd (view l)) (k .offset)) (refusing 10) (cond (tableOk (k .table)) (settling (stepOf l k)) (refusing 15))
+      cond (leb (lastEnd (view l)) (k .offset)) (refusing 10) (cond (tableOk (k .table)) (outcomeOf (stepOf l k)) (refusing 15))
 
-  -- What a call gives, 1 where the layout is not valid.
+  -- What a call gives, 1 if the layout is not valid.
   unfoldable pub growOf : Outcome
   growOf = cond (valid l) growIn (refusing 1)

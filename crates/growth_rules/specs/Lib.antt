@@ -4,11 +4,11 @@ pub mod Growing
 pub mod Moments
 pub mod StepLaws
 pub mod PartLaws
-pub mod Keeping
-pub mod KeepingLaws
+pub mod Replacing
+pub mod ReplacingLaws
 pub mod RenewingLaws
-pub mod PartKeeping
-pub mod StepKeeping
+pub mod PartReplacing
+pub mod StepReplacing
 pub mod CallCases
 pub mod ValidityLaws
 pub mod MomentLaws

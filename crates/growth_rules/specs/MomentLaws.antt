@@ -22,8 +22,8 @@ use Rattle.mapping.specs.declared.Piece.{Piece}
 use Rattle.mapping.specs.Cutting.{pieceFrom}
 use Rattle.growth_rules.specs.Steps.{Call}
 use Rattle.growth_rules.specs.Growing.{Outcome}
-use Rattle.growth_rules.specs.Moments.{behindCall, moments}
-use Rattle.growth_rules.specs.Keeping.{NoExtent}
+use Rattle.growth_rules.specs.Moments.{afterCall, moments}
+use Rattle.growth_rules.specs.Replacing.{NoExtent}
 use Rattle.growth_rules.specs.CallCases.{Called, refused, unchanged, grown, Grown, call-cases}
 use Rattle.growth_rules.specs.ValidityLaws.{step-changed, changed-valid}
 
@@ -64,12 +64,12 @@ module _ (l : Layout) (k : Call) (v : valid l ≡ true) where
   -- The layout that a change gives.
   grown-follows : (cs : List Component) (os : List Object) → Grown l k cs os → Follows l (packed (l .generation + 1) cs)
   grown-follows cs os g =
-      let kept = step-changed l k v (g .table) cs os (g .step) .kept in
+      let replaced = step-changed l k v (g .table) cs os (g .step) .replaced in
       let whole = view-pack (l .generation + 1) cs (g .few) in
       record {
         sound = changed-valid l k v (g .table) cs os (g .step) (g .few) (g .apart);
-        readings = λ read n b a e. ap (readingOf read b) whole ∙ kept .readings read n b a e;
-        ends = ap lastEnd whole ∙ kept .ends;
+        readings = λ read n b a e. ap (readingOf read b) whole ∙ replaced .readings read n b a e;
+        ends = ap lastEnd whole ∙ replaced .ends;
       }
 
   -- The layout of each of the cases that a call comes to,
@@ -78,8 +78,8 @@ module _ (l : Layout) (k : Call) (v : valid l ≡ true) where
   outcome-follows unchanged = follows-same l v
   outcome-follows (grown cs os g) = grown-follows cs os g
 
-  -- and so the layout behind a call, comes of the one that it was given.
-  call-follows : Follows l (behindCall l k)
+  -- and so the layout after a call, comes of the one that it was given.
+  call-follows : Follows l (afterCall l k)
   call-follows = outcome-follows (call-cases l k)
 
 -- Each moment comes of the start,
@@ -89,8 +89,8 @@ start-follows d l ks v zero h = follows-same l v
 start-follows d l [] v (suc j) h = absurd (omega arith)
 start-follows d l (k ∷ ks) v (suc j) h =
     let c = call-follows l k v in
-    follows-on l (behindCall l k) (getD (moments (behindCall l k) ks) j d) c
-    (start-follows d (behindCall l k) ks (c .sound) j (omega arith))
+    follows-on l (afterCall l k) (getD (moments (afterCall l k) ks) j d) c
+    (start-follows d (afterCall l k) ks (c .sound) j (omega arith))
 
 -- and of each moment before it.
 moment-follows : (d l : Layout) (ks : List Call) → valid l ≡ true → (i j : ℕ) → i ≤ j → j < length (moments l ks)
@@ -99,7 +99,7 @@ moment-follows d l ks v zero j le h = start-follows d l ks v j h
 moment-follows d l ks v (suc i) zero le h = absurd (omega arith)
 moment-follows d l [] v (suc i) (suc j) le h = absurd (omega arith)
 moment-follows d l (k ∷ ks) v (suc i) (suc j) le h =
-    moment-follows d (behindCall l k) ks (call-follows l k v .sound) i j (omega arith) (omega arith)
+    moment-follows d (afterCall l k) ks (call-follows l k v .sound) i j (omega arith) (omega arith)
 
 module _ (l : Layout) (ks : List Call) (v : valid l ≡ true) where
   -- The layout of every moment is valid.

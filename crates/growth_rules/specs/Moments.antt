@@ -5,15 +5,15 @@ use Rattle.layout.specs.declared.Layout.{Layout}
 use Rattle.growth_rules.specs.Steps.{Call}
 use Rattle.growth_rules.specs.Growing.{growOf}
 
--- The layout behind a call: the one that it gave back, or, if it refused, the one it was given.
-abbrev pub behindCall : Layout → Call → Layout
-behindCall l k = growOf l k .layout
+-- The layout after a call: the one that it gave back, or, if it refused, the one it was given.
+abbrev pub afterCall : Layout → Call → Layout
+afterCall l k = growOf l k .layout
 
--- The layouts behind each call of a list.
-abbrev pub behindCalls : Layout → List Call → List Layout
-behindCalls l [] = []
-behindCalls l (k ∷ ks) = behindCall l k ∷ behindCalls (behindCall l k) ks
+-- The layouts after each call of a list.
+abbrev pub afterCalls : Layout → List Call → List Layout
+afterCalls l [] = []
+afterCalls l (k ∷ ks) = afterCall l k ∷ afterCalls (afterCall l k) ks
 
--- The moments of a list of calls: the start, and behind each call.
+-- The moments of a list of calls: the start, and after each call.
 abbrev pub moments : Layout → List Call → List Layout
-moments l ks = l ∷ behindCalls l ks
+moments l ks = l ∷ afterCalls l ks

@@ -1,4 +1,4 @@
--- The laws of grants and of new ids. What stands in quotes is document 01's.
+-- The laws of grants and of new ids. What is in quotes is document 01's.
 use Prim.Native.Nat.{ℕ, zero, suc, _+_, _-_, _≤_, _<_, min}
 use mathlib.Core.Path.{_≡_, refl}
 use mathlib.Core.List.{List, [], _∷_}
@@ -52,7 +52,7 @@ pub record FirstFree (k : ℕ) (ids : List ℕ) (r : ℕ) : Type 0 where
   pub unused : count eqb r ids ≡ 0
   pub smallest : (m : ℕ) → k ≤ m → m < r → elem eqb m ids ≡ true
 
--- Such a number is found where at most n of the ids are k or more.
+-- Such a number is found if at most n of the ids are k or more.
 first-free : (n k : ℕ) (ids : List ℕ) → above k ids ≤ n → FirstFree k ids (idFrom n k ids)
 first-free zero k ids h =
     record { from = omega arith; unused = omega (arith, above-next k ids); smallest = λ m p q. absurd (omega arith) }

@@ -1,4 +1,4 @@
--- What the steps of growth do to single components and to an extension. What stands in quotes is document 01's.
+-- What the steps of growth do to single components and to an extension. What is in quotes is document 01's.
 use Prim.Native.Nat.{ℕ, zero, suc, _+_, min}
 use mathlib.Core.List.{List, [], _∷_}
 use mathlib.Core.Bool.{true, false, cond}
@@ -72,11 +72,11 @@ repeatOf new c begin end os = withExtent begin end (madeInit os (repeatBase new 
 abbrev pub reach : ℕ → Component → ℕ
 reach from x = min (from + x .«extension_size») (x .end)
 
--- What stands for an extension once its bytes below `at` are gone, before other components: "An empty extension is removed."
+-- What is left of an extension once its bytes below `at` are gone, before other components: "An empty extension is removed."
 unfoldable pub leaving : ℕ → Component → List Component → List Component
 leaving at x cs = cond (eqb at (x .end)) cs (withExtent at (x .end) x ∷ cs)
 
--- The extension x directly behind c, before other components: "C takes a grant".
+-- The extension x directly after c, before other components: "C takes a grant".
 unfoldable pub granting : Component → Component → List Component → List Component
 granting c x cs = withExtent (c .begin) (reach (x .begin) x) c ∷ leaving (reach (x .begin) x) x cs
 
@@ -87,7 +87,7 @@ following from n [] = withExtent from (n .end) n ∷ []
 following from n (y ∷ cs) =
     cond (y .extension) (withExtent from (reach from y) n ∷ leaving (reach from y) y cs) (withExtent from (n .end) n ∷ y ∷ cs)
 
--- The first number from k on that is none of the ids, where at most `n` of them are k or more.
+-- The first number from k on that is none of the ids, if at most `n` of them are k or more.
 abbrev pub idFrom : ℕ → ℕ → List ℕ → ℕ
 idFrom zero k ids = k
 idFrom (suc n) k ids = cond (elem eqb k ids) (idFrom n (k + 1) ids) k

@@ -16,9 +16,9 @@ use Rattle.layout.specs.RecordLaws.{records-pack}
 use Rattle.layout.specs.Distinct.{sameObject}
 use Rattle.layout.specs.Facts.{Striped, IsInit, IsBare}
 use Rattle.growth_rules.specs.Parts.{withExtent, madeInit, repeatOf}
-use Rattle.growth_rules.specs.Keeping.{Renewed, Chosen}
+use Rattle.growth_rules.specs.Replacing.{Renewed, Chosen}
 
--- Chosen object records that stand in the places of an init component, as many as its stripes, are its object records.
+-- Chosen object records that are in the places of an init component, as many as its stripes, are its object records.
 chosen-records : {s : ℕ} {os : List Object} (c : Component) → c .init ≡ true → c .objects ≡ packObjects os → c .«stripe_count» ≡ s
     → s ≤ 16 → Chosen s os → recordsOf c ≡ os
 chosen-records {s} {os} c i p e few ch = rw (i, p, e, ← ch .enough) (records-pack os (omega (arith, ch .enough)))
@@ -41,7 +41,7 @@ chosen-init c i x s h p e ch first =
       targets = rw same (ch .targets);
     }
 
--- An init component with another extent stands for itself.
+-- An init component with another extent may replace itself.
 pub init-renewed : (c : Component) (begin end : ℕ) → IsInit c → begin < end → Renewed c (withExtent begin end c) []
 init-renewed c begin end k h = record {
   kind = record {
@@ -63,7 +63,7 @@ init-renewed c begin end k h = record {
   objects = λ o. omega arith;
 }
 
--- A bare component that is made init on chosen object records stands for itself.
+-- A bare component that is made init on chosen object records may replace itself.
 pub bare-renewed : (c : Component) (begin end : ℕ) (os : List Object) → IsBare c → Chosen (c .«stripe_count») os → begin < end
     → Renewed c (withExtent begin end (madeInit os c)) os
 bare-renewed c begin end os k ch h =

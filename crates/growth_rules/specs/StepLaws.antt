@@ -1,4 +1,4 @@
--- The step of a call by the position of the component that holds the offset. What is said to stand past the end of a list, d,
+-- The step of a call by the position of the component that holds the offset. What is said to be past the end of a list, d,
 -- does not matter.
 use Prim.Native.Nat.{ℕ, zero, suc, _<_}
 use mathlib.Core.Path.{_≡_, refl, sym, ap, _∙_}
@@ -14,33 +14,33 @@ use Rattle.layout.specs.declared.Component.{Component}
 use Rattle.layout.specs.Holder.{holds, holderOf, lastEnd}
 use Rattle.layout.specs.Facts.{Fields, Linked}
 use Rattle.layout.specs.HolderLaws.{covers-holder, covers-last}
-use Rattle.growth_rules.specs.Steps.{Call, Step, stays, lacks, changes, behind, heldStep, extensionStep, stepOn}
+use Rattle.growth_rules.specs.Steps.{Call, Step, stays, lacks, changes, stepAfter, heldStep, extensionStep, stepOn}
 
 -- A step with components before those that it is made on.
-abbrev pub behindAll : List Component → Step → Step
-behindAll [] s = s
-behindAll (c ∷ cs) s = behind c (behindAll cs s)
+abbrev pub stepAfterAll : List Component → Step → Step
+stepAfterAll [] s = s
+stepAfterAll (c ∷ cs) s = stepAfter c (stepAfterAll cs s)
 
--- What a step changes, it changes behind them; it stays or lacks targets as without them.
-pub behind-changes : (before cs : List Component) (os : List Object)
-    → behindAll before (changes cs os) ≡ changes (before ++ cs) os
-behind-changes [] cs os = refl
-behind-changes (c ∷ before) cs os = ap (behind c) (behind-changes before cs os)
+-- What a step changes, it changes after them; it stays or lacks targets as without them.
+pub after-changes : (before cs : List Component) (os : List Object)
+    → stepAfterAll before (changes cs os) ≡ changes (before ++ cs) os
+after-changes [] cs os = refl
+after-changes (c ∷ before) cs os = ap (stepAfter c) (after-changes before cs os)
 
-pub behind-stays : (before : List Component) → behindAll before stays ≡ stays
-behind-stays [] = refl
-behind-stays (c ∷ before) = ap (behind c) (behind-stays before)
+pub after-stays : (before : List Component) → stepAfterAll before stays ≡ stays
+after-stays [] = refl
+after-stays (c ∷ before) = ap (stepAfter c) (after-stays before)
 
-pub behind-lacks : (before : List Component) → behindAll before lacks ≡ lacks
-behind-lacks [] = refl
-behind-lacks (c ∷ before) = ap (behind c) (behind-lacks before)
+pub after-lacks : (before : List Component) → stepAfterAll before lacks ≡ lacks
+after-lacks [] = refl
+after-lacks (c ∷ before) = ap (stepAfter c) (after-lacks before)
 
--- An extension never stands first in a list that keeps the neighbour rule: where one holds a byte, a component stands before it.
-pub extension-behind : (more : Bool) (at : ℕ) (cs : List Component) (d : Component) (i : ℕ) → Linked more at false cs
+-- An extension is never first in a list that keeps the neighbour rule: if one holds a byte, a component is before it.
+pub extension-after : (more : Bool) (at : ℕ) (cs : List Component) (d : Component) (i : ℕ) → Linked more at false cs
     → i < length cs → getD cs i d .extension ≡ true → 0 < i
-extension-behind more at [] d i k h e = absurd (omega arith)
-extension-behind more at (c ∷ cs) d zero k h e = clash (k .1 e) refl
-extension-behind more at (c ∷ cs) d (suc i) k h e = omega arith
+extension-after more at [] d i k h e = absurd (omega arith)
+extension-after more at (c ∷ cs) d zero k h e = clash (k .1 e) refl
+extension-after more at (c ∷ cs) d (suc i) k h e = omega arith
 
 -- In a list that keeps the rules of fields and neighbours, 10 applies to a byte exactly if no component holds it.
 pub past-holder : (more : Bool) (cs : List Component) → Linked more 0 false cs → Fields cs → (b : ℕ)
@@ -62,27 +62,27 @@ right-fails true b e = e
 right-fails false b e = refl
 
 module _ (k : Call) (new : ℕ) where
-  -- The step where the first component holds the offset,
+  -- The step if the first component holds the offset,
   first-holds : (c : Component) (cs : List Component) → holds c (k .offset) ≡ true → stepOn k new (c ∷ cs) ≡ heldStep k c cs
   unfolding stepOn
   first-holds c [] e = rw e
   first-holds c (x ∷ cs) e = rw e
 
   module _ (c x : Component) (cs : List Component) (out : holds c (k .offset) ≡ false) where
-    -- where an extension directly behind the first does,
+    -- if an extension directly after the first does,
     second-holds : (x .extension && holds x (k .offset)) ≡ true → stepOn k new (c ∷ x ∷ cs) ≡ extensionStep k new c x cs
     unfolding stepOn
     second-holds e = rw (out, e)
 
-    -- and where neither does.
-    later-holds : (x .extension && holds x (k .offset)) ≡ false → stepOn k new (c ∷ x ∷ cs) ≡ behind c (stepOn k new (x ∷ cs))
+    -- and if neither does.
+    later-holds : (x .extension && holds x (k .offset)) ≡ false → stepOn k new (c ∷ x ∷ cs) ≡ stepAfter c (stepOn k new (x ∷ cs))
     unfolding stepOn
     later-holds e = rw (out, e)
 
   module _ (d : Component) where
-    -- Where the component that holds the offset is no extension, the step is made for it, and those before it stay.
+    -- If the component that holds the offset is no extension, the step is made for it, and those before it stay.
     pub held-step : (cs : List Component) (i : ℕ) → holderOf (k .offset) cs ≡ i → i < length cs → getD cs i d .extension ≡ false
-        → stepOn k new cs ≡ behindAll (take i cs) (heldStep k (getD cs i d) (drop (suc i) cs))
+        → stepOn k new cs ≡ stepAfterAll (take i cs) (heldStep k (getD cs i d) (drop (suc i) cs))
     held-step [] i e h x = absurd (omega arith)
     held-step (c ∷ cs) zero e h x =
         bool-cases (holds c (k .offset)) (λ q. first-holds c cs q) (λ q. absurd (omega (arith, rw q at e)))
@@ -91,7 +91,7 @@ module _ (k : Call) (new : ℕ) where
         bool-cases (holds c (k .offset)) (λ q. absurd (omega (arith, rw q at e)))
         (λ q. let there : holderOf (k .offset) (y ∷ cs) ≡ i = omega (arith, rw q at e) in
         later-holds c y cs q (not-second y cs i there x)
-        ∙ ap (behind c) (held-step (y ∷ cs) i there (omega arith) x))
+        ∙ ap (stepAfter c) (held-step (y ∷ cs) i there (omega arith) x))
       where
         not-second : (y : Component) (cs : List Component) (i : ℕ) → holderOf (k .offset) (y ∷ cs) ≡ i
             → getD (y ∷ cs) i d .extension ≡ false → (y .extension && holds y (k .offset)) ≡ false
@@ -100,11 +100,11 @@ module _ (k : Call) (new : ℕ) where
             bool-cases (holds y (k .offset)) (λ q. absurd (omega (arith, rw q at e)))
             (λ q. right-fails (y .extension) (holds y (k .offset)) q)
 
-    -- Where it is an extension, the step is made for it and the component directly before it, and those before the two stay.
+    -- If it is an extension, the step is made for it and the component directly before it, and those before the two stay.
     pub extension-step : (cs : List Component) (j : ℕ) → holderOf (k .offset) cs ≡ suc j → suc j < length cs
         → getD cs (suc j) d .extension ≡ true
         → stepOn k new cs
-        ≡ behindAll (take j cs) (extensionStep k new (getD cs j d) (getD cs (suc j) d) (drop (suc (suc j)) cs))
+        ≡ stepAfterAll (take j cs) (extensionStep k new (getD cs j d) (getD cs (suc j) d) (drop (suc (suc j)) cs))
     extension-step [] j e h x = absurd (omega arith)
     extension-step (c ∷ []) j e h x = absurd (omega arith)
     extension-step (c ∷ y ∷ cs) zero e h x =
@@ -115,4 +115,4 @@ module _ (k : Call) (new : ℕ) where
         bool-cases (holds c (k .offset)) (λ q. absurd (omega (arith, rw q at e)))
         (λ q. bool-cases (holds y (k .offset)) (λ r. absurd (omega (arith, rw (q, r) at e)))
         (λ r. later-holds c y cs q (right-fails (y .extension) (holds y (k .offset)) r)
-        ∙ ap (behind c) (extension-step (y ∷ cs) j (omega (arith, rw q at e)) (omega arith) x)))
+        ∙ ap (stepAfter c) (extension-step (y ∷ cs) j (omega (arith, rw q at e)) (omega arith) x)))

@@ -1,4 +1,4 @@
--- The step that a call of growth makes on the components of a layout, case by case. What stands in quotes is document 01's.
+-- The step that a call of growth makes on the components of a layout, case by case. What is in quotes is document 01's.
 use Prim.Native.Nat.{ℕ}
 use mathlib.Core.List.{List, [], _∷_}
 use mathlib.Core.Bool.{cond, _&&_, _||_}
@@ -19,7 +19,7 @@ pub record Call : Type 0 where
   pub mark : ℕ
   pub table : List TargetRecord
 
--- What a step makes of components: they stay as they are; there are too few usable targets to choose from; or others stand in
+-- What a step makes of components: they stay as they are; there are too few usable targets to choose from; or others are in
 -- their place, with these object records chosen.
 pub data Step : Type 0 where
   stays : Step
@@ -27,19 +27,19 @@ pub data Step : Type 0 where
   changes : List Component → List Object → Step
 
 -- A step with a component before those that it is made on.
-abbrev pub behind : Component → Step → Step
-behind c stays = stays
-behind c lacks = lacks
-behind c (changes cs os) = changes (c ∷ cs) os
+abbrev pub stepAfter : Component → Step → Step
+stepAfter c stays = stays
+stepAfter c lacks = lacks
+stepAfter c (changes cs os) = changes (c ∷ cs) os
 
 module _ (k : Call) where
-  -- s targets are chosen, and `made` gives the components by the chosen object records; `other` where fewer than s are usable.
+  -- s targets are chosen, and `made` gives the components by the chosen object records; `other` if fewer than s are usable.
   unfoldable pub choosing : ℕ → (List Object → List Component) → Step → Step
   choosing s made other =
       let os = chosen (usable (k .mark)) s (k .table) in cond (eqb (length os) s) (changes (made os) os) other
 
   -- The component c, before the components cs, holds the offset. "Init: no change, accepted." "Not init, no extension: choose
-  -- targets (else 16), make it init." (No extension stands without a component directly before it.)
+  -- targets (else 16), make it init." (No extension is without a component directly before it.)
   unfoldable pub heldStep : Component → List Component → Step
   heldStep c cs = cond (c .init || c .extension) stays (choosing (c .«stripe_count») (λ os. madeInit os c ∷ cs) lacks)
 
@@ -60,7 +60,7 @@ module _ (k : Call) where
         (changes (granting c x []) [])
     lowStep c x (n ∷ cs) = spillStep c x n cs
 
-    -- The extension x, directly behind c and before the components cs, holds the offset. "Extension X after C, C not init: choose
+    -- The extension x, directly after c and before the components cs, holds the offset. "Extension X after C, C not init: choose
     -- for C (else 16); made init, it takes a grant." "C init, none of its targets low: C takes a grant."
     unfoldable pub extensionStep : Component → Component → List Component → Step
     extensionStep c x cs =
@@ -75,4 +75,4 @@ module _ (k : Call) where
     stepOn (c ∷ []) = cond (holds c (k .offset)) (heldStep c []) stays
     stepOn (c ∷ x ∷ cs) =
         cond (holds c (k .offset)) (heldStep c (x ∷ cs))
-        (cond (x .extension && holds x (k .offset)) (extensionStep c x cs) (behind c (stepOn (x ∷ cs))))
+        (cond (x .extension && holds x (k .offset)) (extensionStep c x cs) (stepAfter c (stepOn (x ∷ cs))))

@@ -23,11 +23,11 @@ use Rattle.growth_rules.specs.Parts.{freshId}
 use Rattle.growth_rules.specs.PartLaws.{fresh-id}
 use Rattle.growth_rules.specs.Steps.{Call, changes}
 use Rattle.growth_rules.specs.Growing.{Outcome, meets, stepOf, growOf}
-use Rattle.growth_rules.specs.Keeping.{Changed, StepKeeps}
-use Rattle.growth_rules.specs.StepKeeping.{step-keeps}
+use Rattle.growth_rules.specs.Replacing.{Changed, StepKeeps}
+use Rattle.growth_rules.specs.StepReplacing.{step-keeps}
 use Rattle.growth_rules.specs.CallCases.{Called, refused, unchanged, grown, call-cases}
 
--- Where no object record names the object of another, none of the objects of the ones stands among the others.
+-- If no object record names the object of another, none of the objects of the ones is among the others.
 meets-apart : (os others : List Object) → meets os others ≡ false → (o : Object) → 1 ≤ count sameObject o os
     → count sameObject o others ≡ 0
 meets-apart [] others e o h = absurd (omega arith)
@@ -48,28 +48,28 @@ module _ (l : Layout) (k : Call) (v : valid l ≡ true) where
       in
       rw e at keeps
 
-  -- So the components behind it keep the component rules, where 18 does not apply.
+  -- So the components after it keep the component rules, if 18 does not apply.
   pub changed-keeps : (cs : List Component) (os : List Object) → Changed (freshId (idsOf (view l))) 0 false (view l) cs os
       → meets os (recordsIn (view l)) ≡ false → Keeps false cs
   changed-keeps cs os c apart =
       let before = valid-facts l v .keeps in
       let new = freshId (idsOf (view l)) in
       record {
-        fields = c .kept .fields;
-        linked = c .kept .linked;
+        fields = c .replaced .fields;
+        linked = c .replaced .linked;
         ids = λ i.
             bool-cases (eqb i new)
             (λ e. let none : count eqb i (idsOf (view l)) ≡ 0 = rw (eqb-true i new e) (fresh-id (idsOf (view l)) .unused) in
-            let one : bit (eqb i new) ≡ 1 = rw e in omega (arith, c .kept .ids i))
-            (λ e. let none : bit (eqb i new) ≡ 0 = rw e in omega (arith, c .kept .ids i, before .ids i));
+            let one : bit (eqb i new) ≡ 1 = rw e in omega (arith, c .replaced .ids i))
+            (λ e. let none : bit (eqb i new) ≡ 0 = rw e in omega (arith, c .replaced .ids i, before .ids i));
         objects = λ o.
             bool-cases (leb 1 (count sameObject o os))
             (λ e. let some = leb-true 1 (count sameObject o os) e in
-            omega (arith, c .kept .objects o, c .once o, meets-apart os (recordsIn (view l)) apart o some))
-            (λ e. omega (arith, c .kept .objects o, before .objects o, leb-false 1 (count sameObject o os) e));
+            omega (arith, c .replaced .objects o, c .once o, meets-apart os (recordsIn (view l)) apart o some))
+            (λ e. omega (arith, c .replaced .objects o, before .objects o, leb-false 1 (count sameObject o os) e));
       }
 
--- A layout that a step changes is valid again, where 17 and 18 do not apply.
+-- A layout that a step changes is valid again, if 17 and 18 do not apply.
 pub changed-valid : (l : Layout) (k : Call) → valid l ≡ true → tableOk (k .table) ≡ true
     → (cs : List Component) (os : List Object) → stepOf l k ≡ changes cs os → length cs ≤ 16
     → meets os (recordsIn (view l)) ≡ false → valid (packed (l .generation + 1) cs) ≡ true

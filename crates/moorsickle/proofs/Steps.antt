@@ -19,7 +19,7 @@ use denote.Triple.Statement.{Contract, Triple}
 use denote.Triple.Call.{calls-at}
 
 -- A call, with what the callee asks at the head of the context. Once it has returned, the machine values of its result
--- and a fact that it ensures are known, and the tokens that were lent stand at the head. What the result owns is left
+-- and a fact that it ensures are known, and the tokens that were lent are at the head. What the result owns is left
 -- out: `owned` makes it anew.
 module _ {M : Type 1} {𝓤 : URA M} {H : Heap 𝓤} {A : Atoms 𝓤} {K : Type 0} {W : Given 𝓤 H A} {Γ : List (Item 𝓤)}
     {E : Env 𝓤 H} {C : Calls 𝓤 H} {f : Name} {xs : List Operand} {Λ : Loops 𝓤 H} {q : Post 𝓤 H} {d : Place} where

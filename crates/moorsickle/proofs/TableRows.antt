@@ -71,7 +71,7 @@ module _ {M : Type 1} (𝓤 : URA M) (H : Heap 𝓤) (A : Atoms 𝓤) where
     abbrev pub tab-lawful : Lawful 𝓤 H A Tab
     tab-lawful = StructLaws.lawful TB.the-type TB′.the-laws 𝓤 H A W
 
--- A table's machine values, where it equals another.
+-- A table's machine values, if it equals another.
 pub tab-same : (r t : Table) (v : Val) → Is Tab r (v ∷ []) → r ≡ t → v ≡ tab-val t
 tab-same r t v is e = ap only (tab-tells r _ is) ∙ ap tab-val e
 

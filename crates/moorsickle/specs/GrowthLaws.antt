@@ -1,4 +1,4 @@
--- What a call of growth that changes the layout chooses and raises in its table. What stands in quotes is document 01's.
+-- What a call of growth that changes the layout chooses and raises in its table. What is in quotes is document 01's.
 use Prim.Native.Nat.{ℕ, _<_}
 use mathlib.Core.Path.{_≡_, sym, ap, subst, _∙_}
 use mathlib.Core.List.{List, map}

@@ -22,7 +22,7 @@ withRecord t i r = record { count = t .count; records = set (t .records) i r }
 unfoldable pub loadedFirst : ℕ → List TargetRecord → Table
 loadedFirst i rs = withRecords (emptyTable (placesOf (length rs))) (take i rs)
 
--- The table of these records, or of the first 65 where they are more.
+-- The table of these records, or of the first 65 if they are more.
 abbrev pub loadedOf : List TargetRecord → Table
 loadedOf rs = loadedFirst 65 rs
 

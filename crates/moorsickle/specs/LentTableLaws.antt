@@ -111,7 +111,7 @@ own-nexts (suc n) (r ∷ rs) = ap (λ (l : List TargetRecord). r ∷ l) (own-nex
 same-nexts : (rs : List TargetRecord) → withNexts rs rs ≡ rs
 same-nexts rs = ap (withNexts rs) (sym (take-length rs)) ∙ own-nexts (length rs) rs
 
--- The table behind a choice differs from the one before it by next numbers alone: they make the one out of the other,
+-- The table after a choice differs from the one before it by next numbers alone: they make the one out of the other,
 module _ (ok : TargetRecord → Bool) where
   raised-nexts : (s : ℕ) (rs : List TargetRecord) → withNexts rs (raisedFirst ok s rs) ≡ raisedFirst ok s rs
   raised-nexts s [] = refl
@@ -132,7 +132,7 @@ module _ (ok : TargetRecord → Bool) where
 abbrev Renumbered : List TargetRecord → List TargetRecord → Type 0
 Renumbered rs ss = (withNexts rs ss ≡ ss) × (length ss ≡ length rs)
 
--- So does the table behind a call come of the table before it.
+-- So does the table after a call come of the table before it.
 call-renumbers : (l : Layout) (k : Call) → Renumbered (k .table) (growOf l k .table)
 call-renumbers l k =
     ⊎-elim (λ e. rw e (same-nexts (k .table), refl))

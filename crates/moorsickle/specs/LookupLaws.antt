@@ -1,10 +1,10 @@
--- Lookup over any layout gives the homes of its bytes. What stands in quotes is document 01's.
+-- Lookup over any layout gives the homes of its bytes. What is in quotes is document 01's.
 use Prim.Native.Nat.{ℕ}
-use mathlib.Core.Path.{_≡_, refl, sym, ap, _∙_}
+use mathlib.Core.Path.{_≡_, sym, ap, _∙_}
 use mathlib.Core.List.{List}
 use mathlib.Core.Logic.{_↔_}
-use mathlib.Core.Option.{Option, none, some}
-use mathlib.Core.Bool.{true, false, false≢true}
+use mathlib.Core.Option.{Option, some}
+use mathlib.Core.Bool.{true, false}
 use native.Mathlib.Omega.{arith}
 use lib.Dec.{leb}
 use borrow.Author.Tests.{leb-false, not-false}
@@ -20,7 +20,7 @@ use Rattle.layout.specs.Holder.{lastEnd}
 use Rattle.mapping.specs.Answers.{gives}
 use Rattle.mapping.specs.AnswerLaws.{answer-gives, checked-valid, checked-gives}
 use Rattle.mapping.specs.Homes.{Home, inInit, homeOf, isGiven, hasHome}
-use Rattle.mapping.specs.HomeLaws.{has-home, not-init-or-init, lookup-home}
+use Rattle.mapping.specs.HomeLaws.{given, has-home, not-init-or-init, lookup-home}
 use Rattle.mapping.specs.Lookup.{notInitAt, lookupRefusal, lookupIn, lookupOf}
 
 -- A lookup in a valid layout gives a home exactly if it is the home of the byte.
@@ -40,11 +40,6 @@ accepted-init {cs} k b z =
     (λ e. bool-cases (anyOf (notInitAt b) cs) (λ t. absurd (omega (arith, rw (e, t) at z)))
     (λ t. not-false (inInit b cs) (sym (not-init-or-init k b (leb-false (lastEnd cs) b e)) ∙ t)))
 
--- What is given, where something is.
-given-some : (o : Option Home) → isGiven o ≡ true → (h : Home) × (o ≡ some h)
-given-some none e = absurd (false≢true e)
-given-some (some h) e = (h, refl)
-
 -- "Each lookup answers a home, or a refusal number": one that is not refused gives a home.
 pub lookup-some : (l : Layout) (b : ℕ) (o : Option Home) → lookupOf b l ≡ gives o → (h : Home) × (o ≡ some h)
 unfolding lookupOf hasHome
@@ -53,4 +48,4 @@ lookup-some l b o e =
     let g = checked-gives l (lookupRefusal b cs) (homeOf b cs) o e in
     let a = answer-gives (lookupRefusal b cs) (homeOf b cs) o (g .1) in
     let init = accepted-init (valid-facts l (g .0) .keeps) b (a .0) in
-    given-some o (ap isGiven (sym (a .1)) ∙ has-home b cs ∙ init)
+    given o (ap isGiven (sym (a .1)) ∙ has-home b cs ∙ init)

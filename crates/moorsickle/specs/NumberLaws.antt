@@ -25,7 +25,7 @@ use Rattle.mapping.specs.Cutting.{roomAfter}
 use Rattle.paging.specs.Paging.{outBuffer}
 use Rattle.free_table.specs.Table.{tableOk}
 use Rattle.growth_rules.specs.Steps.{Call, Step, stays, lacks, changes}
-use Rattle.growth_rules.specs.Growing.{meets, stepOf, settling, growIn, growOf}
+use Rattle.growth_rules.specs.Growing.{meets, stepOf, outcomeOf, growIn, growOf}
 use Rattle.moorsickle.specs.Numbers.{Refusal, _when_, lowest, rise, IsLowest, refusalAt, NoLower, answerNumber}
 use Rattle.moorsickle.specs.Numbers.{hidden, lacksTargets, leavesMany, meetsLayout, isChange}
 
@@ -56,7 +56,7 @@ lowest-from : (from : ℕ) (rs : List Refusal) → rise from rs ≡ true → (lo
 lowest-from from rs e =
     ⊎-elim (λ z. inl z) (λ p. inr (omega (arith, rise-at from rs e (p .0) (p .1), p .2))) (lowest-listed rs)
 
--- Where the number of a refusal is given, it applies, and none of a lower number does,
+-- If the number of a refusal is given, it applies, and none of a lower number does,
 given-applies : (from : ℕ) (rs : List Refusal) → 1 ≤ from → rise from rs ≡ true → (i : ℕ) → i < length rs
     → lowest rs ≡ refusalAt rs i .number → (refusalAt rs i .applies ≡ true) × NoLower rs i
 given-applies from [] f e i h q = absurd (omega arith)
@@ -94,7 +94,7 @@ applies-given from (r ∷ rs) e (suc i) h a none =
     let first : r .applies ≡ false = none 0 (omega arith) (omega arith) in
     rw first (applies-given (r .number + 1) rs (p .1) i (omega arith) a (λ j k l. none (suc j) (omega arith) l))
 
--- 0 is given where no refusal applies,
+-- 0 is given if no refusal applies,
 none-zero : (rs : List Refusal) → ((i : ℕ) → i < length rs → refusalAt rs i .applies ≡ false) → lowest rs ≡ 0
 none-zero [] f = refl
 none-zero (r ∷ rs) f = rw (f 0 (omega arith)) (none-zero rs (λ i h. f (suc i) (omega arith)))
@@ -130,24 +130,24 @@ module _ (rs : List Refusal) (n : ℕ) (g : IsLowest n rs) where
   pub given-listed : (n ≡ 0) ⊎ ((i : ℕ) × (i < length rs) × (n ≡ refusalAt rs i .number))
   given-listed = ⊎-elim (λ z. inl (g .1 ∙ z)) (λ p. inr (p .0, p .1, g .1 ∙ p .2)) (lowest-listed rs)
 
--- A chain of tests gives the lowest number, test by test: n where the test refuses, else m, which the rest of the chain
--- gives. The test refuses where it passes,
+-- A chain of tests gives the lowest number, test by test: n if the test refuses, else m, which the rest of the chain
+-- gives. The test refuses if it passes,
 pub refused-if : (t : Bool) (n : ℕ) {x m : ℕ} → x ≡ m → cond t n x ≡ cond t n m
 refused-if true n e = refl
 refused-if false n e = e
 
--- or where it fails,
+-- or if it fails,
 pub refused-unless : (t : Bool) (n : ℕ) {x m : ℕ} → x ≡ m → cond t x n ≡ cond (not t) n m
 refused-unless true n e = e
 refused-unless false n e = refl
 
--- or where one of two fails,
+-- or if one of two fails,
 pub refused-unless-both : (s t : Bool) (n : ℕ) {x m : ℕ} → x ≡ m → cond (s && t) x n ≡ cond (not s || not t) n m
 refused-unless-both true true n e = e
 refused-unless-both true false n e = refl
 refused-unless-both false t n e = refl
 
--- or where a is above b.
+-- or if a is above b.
 pub refused-above : (a b n : ℕ) {x m : ℕ} → x ≡ m → cond (leb a b) x n ≡ cond (ltb b a) n m
 refused-above a b n e =
     bool-cases (leb a b) (λ q. rw (q, le-ltb b a (leb-true a b q)) e) (λ q. rw (q, lt-ltb b a (leb-false a b q)))
@@ -174,7 +174,7 @@ pub growth-number : (l : Layout) (k : Call)
     → answerNumber (growOf l k .answer)
     ≡ cond (valid l)
     (cond (leb (lastEnd (view l)) (k .offset)) 10
-    (cond (tableOk (k .table)) (answerNumber (settling l k (stepOf l k) .answer)) 15)) 1
+    (cond (tableOk (k .table)) (answerNumber (outcomeOf l k (stepOf l k) .answer)) 15)) 1
 unfolding growOf growIn
 growth-number l k =
     bool-cases (valid l)
@@ -184,14 +184,14 @@ growth-number l k =
 
 -- The number that a step of growth gives.
 pub step-number : (l : Layout) (k : Call) (s : Step)
-    → answerNumber (settling l k s .answer)
+    → answerNumber (outcomeOf l k s .answer)
     ≡ lowest (
     16 when lacksTargets s
     ∷ 17 when leavesMany s
     ∷ 18 when meetsLayout (recordsIn (view l)) s
     ∷ 19 when (isChange s && eqb (l .generation) 4294967295)
     ∷ [])
-unfolding settling lacksTargets leavesMany meetsLayout isChange
+unfolding outcomeOf lacksTargets leavesMany meetsLayout isChange
 step-number l k stays = refl
 step-number l k lacks = refl
 step-number l k (changes cs os) =

@@ -1,4 +1,4 @@
--- Refusal numbers: which one a call gives, by the conditions of all its numbers. What stands in quotes is document 01's.
+-- Refusal numbers: which one a call gives, by the conditions of all its numbers. What is in quotes is document 01's.
 use Prim.Native.Nat.{ℕ, _+_, _^_, _<_}
 use mathlib.Core.Path.{_≡_}
 use mathlib.Core.List.{List, [], _∷_}
@@ -23,17 +23,17 @@ infix 70 _when_
 abbrev pub _when_ : ℕ → Bool → Refusal
 n when t = record { number = n; applies = t }
 
--- The number of the first refusal whose condition holds; 0 where none does.
+-- The number of the first refusal whose condition holds; 0 if none does.
 abbrev pub lowest : List Refusal → ℕ
 lowest [] = 0
 lowest (r ∷ rs) = cond (r .applies) (r .number) (lowest rs)
 
--- The numbers stand in rising order, and none is below `from`.
+-- The numbers are in rising order, and none is below `from`.
 abbrev pub rise : ℕ → List Refusal → Bool
 rise from [] = true
 rise from (r ∷ rs) = leb from (r .number) && rise (r .number + 1) rs
 
--- The refusals rs stand in rising order, from 1 on, and n is the lowest whose condition holds, or 0.
+-- The refusals rs are in rising order, from 1 on, and n is the lowest whose condition holds, or 0.
 abbrev pub IsLowest : ℕ → List Refusal → Type 0
 IsLowest n rs = (rise 1 rs ≡ true) × (n ≡ lowest rs)
 
@@ -46,7 +46,7 @@ abbrev pub NoLower : List Refusal → ℕ → Type 0
 NoLower rs i =
     (j : ℕ) → j < length rs → refusalAt rs j .number < refusalAt rs i .number → refusalAt rs j .applies ≡ false
 
--- The number of an answer that refuses; 0 where it gives what was asked for.
+-- The number of an answer that refuses; 0 if it gives what was asked for.
 abbrev pub answerNumber : {A : Type 0} → Answer A → ℕ
 answerNumber (gives a) = 0
 answerNumber (refuses n) = n

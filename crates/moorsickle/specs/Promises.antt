@@ -1,6 +1,6 @@
 -- The promises of the library. A reader who trusts document 01 reads this file and the definitions that it names, and
--- nothing else. Each promise stands with its whole statement; its proof stands where it is cited. The contract of each
--- public call says that the call gives what the definition gives that is named here. What stands in quotes is document
+-- nothing else. Each promise has its whole statement; its proof is where it is cited. The contract of each
+-- public call says that the call gives what the definition gives that is named here. What is in quotes is document
 -- 01's.
 use Prim.Native.Nat.{ℕ, _+_, _-_, _^_, _≤_, _<_}
 use mathlib.Core.Path.{_≡_, refl, _∙_}
@@ -62,7 +62,7 @@ use Rattle.growth_rules.specs.CallLaws.{Leaves, Changes, refusal-leaves, unchan
 use Rattle.growth_rules.specs.CallLaws.{change-counted, answer-home}
 use Rattle.growth_rules.specs.ValidityLaws.{grow-valid}
 use Rattle.growth_rules.specs.Moments.{moments}
-use Rattle.growth_rules.specs.Keeping.{NoExtent}
+use Rattle.growth_rules.specs.Replacing.{NoExtent}
 use Rattle.growth_rules.specs.MomentLaws.{reading-kept}
 use Rattle.growth_rules.specs.Demand3.{Demand3, demand3}
 use Rattle.worked_table.specs.Asking.{replies}
@@ -75,7 +75,7 @@ use Rattle.moorsickle.specs.LookupLaws as looking
 use Rattle.moorsickle.specs.GrowthLaws as growing
 
 -- 1. Numbers. "Among its call's numbers each is given exactly if its condition holds and no lower one's does." For each
--- call stands a list of its numbers, each with its condition by itself. `IsLowest n rs` says that the numbers of rs rise
+-- call there is a list of its numbers, each with its condition by itself. `IsLowest n rs` says that the numbers of rs rise
 -- and that n is the lowest whose condition holds, or 0. So each number is given exactly if its condition holds and no
 -- lower one's does;
 pub number-exactly : (rs : List Refusal) (n : ℕ) → IsLowest n rs → (i : ℕ) → i < length rs
@@ -298,7 +298,7 @@ pub lookup-gives : (l : Layout) → valid l ≡ true → (b : ℕ) (h : Home)
     → (lookupOf b l ≡ gives (some h)) ↔ (homeOf b (view l) ≡ some h)
 lookup-gives = looking.lookup-gives
 
--- and where it is not refused it gives one;
+-- and if it is not refused it gives one;
 pub lookup-some : (l : Layout) (b : ℕ) (o : Option Home) → lookupOf b l ≡ gives o → (h : Home) × (o ≡ some h)
 lookup-some = looking.lookup-some
 
@@ -310,7 +310,7 @@ back-of-lookup = looked-up-back
 pub lookup-of-back : (l : Layout) (h : Home) (b : ℕ) → backOf h l ≡ gives b → lookupOf b l ≡ gives (some h)
 lookup-of-back = back-looked-up
 
--- 4. Cutting. Where a request is accepted with the answer k, there are k pieces, "the number of different cut places
+-- 4. Cutting. If a request is accepted with the answer k, there are k pieces, "the number of different cut places
 -- strictly inside the request plus one, or 0 for length 0"; they "stand in file order and together are the request"; no
 -- cut place lies strictly inside one; and each tells the homes of its bytes. These are the fields of `Cut`.
 pub cut-right : (l : Layout) (a m n k : ℕ) → cutOf a m n l ≡ gives k

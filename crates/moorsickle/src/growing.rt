@@ -43,7 +43,7 @@ fn next_at(t: Table, i: usize) -> u64
     t.records[i].next
 }
 
-// The lent records as a table, or the first 65 of them where they are more: 65 are too many already.
+// The lent records as a table, or the first 65 of them if they are more: 65 are too many already.
 pub(crate) fn load(table: &[TargetRecord]) -> Table
     ensures { λ r. ⌜ r ≡ loadedOf (now (table .entry)) ⌝ }
 {
@@ -57,7 +57,7 @@ pub(crate) fn load(table: &[TargetRecord]) -> Table
     t
 }
 
-// The lent records get the next numbers that stand in the table, as many as it has records; those behind them stay.
+// The lent records get the next numbers that are in the table, as many as it has records; those after them stay.
 pub(crate) fn write_back(table: &mut [TargetRecord], t: Table)
     requires { ⌜ (t .count ≤ 65) × (t .count ≤ length (now table)) ⌝ }
     ensures { λ _. ⌜ now (table .exit) ≡ withNexts (now (table .entry)) (tableOf t) ⌝ }

@@ -42,8 +42,8 @@ pub fn new_collector() -> Collector
 }
 
 // Takes a page into the lent collector, which is changed in place. `page` has the bytes of one page and no others; it
-// is only read. The answer is `More` where the page was taken and further pages are wanted, `Complete` where it was
-// taken and is the last, and `Refused` with one of these numbers where it was not taken; the collector then stays as
+// is only read. The answer is `More` if the page was taken and further pages are wanted, `Complete` if it was
+// taken and is the last, and `Refused` with one of these numbers if it was not taken; the collector then stays as
 // it was, and a page may be sent again:
 //  1 the collector breaks the rules of a collector, or its components break the component rules;
 //  2 the collector is complete;
@@ -71,8 +71,8 @@ pub fn layout_of(c: &Collector) -> LayoutOut
     collector::layout_of(*c)
 }
 
-// Writes page `number` of a layout into the first bytes of the lent buffer; the bytes behind the page stay. A page
-// takes the next component where the page then has at most 512 bytes. The answer is `Written` with the number of bytes
+// Writes page `number` of a layout into the first bytes of the lent buffer; the bytes after the page stay. A page
+// takes the next component if the page then has at most 512 bytes. The answer is `Written` with the number of bytes
 // of the page, or `Refused` with one of these numbers; the whole buffer then stays:
 //  1 the layout is not valid;
 //  4 the layout has no page of this number;
@@ -108,7 +108,7 @@ pub fn back(l: Layout, target: u32, number: u64, byte: u64) -> BackOut
 }
 
 // Cuts the request of `bytes` bytes from `offset` at every component border and at every multiple of the component's
-// stripe size. The answer is `Pieces` with the number of pieces, which stand in file order in the first of the lent
+// stripe size. The answer is `Pieces` with the number of pieces, which are in file order in the first of the lent
 // numbers, five a piece: file offset, length, component id, stripe, object byte; the other numbers stay. A request of
 // no bytes has no pieces in a valid layout, wherever it points. Or the answer is `Refused` with one of these numbers;
 // all lent numbers then stay:
@@ -129,7 +129,7 @@ pub fn cut(l: Layout, offset: u64, bytes: u64, room: &mut [u64]) -> CutOut
     mapping::cut(l, offset, bytes, room)
 }
 
-// What growth gives beside the lent table: its answer and the layout afterwards, which is the one handed in where the
+// What growth gives beside the lent table: its answer and the layout afterwards, which is the one handed in if the
 // call is refused.
 pub struct GrownLayout {
     pub out: GrowOut,
@@ -146,7 +146,7 @@ pub struct GrownLayout {
 //  15 the table has more than 64 records, or its targets do not rise strictly, or one is above 65,534;
 //  16 too few targets are usable;
 //  17 the step would leave 17 components;
-//  18 a chosen target and number already stand in the layout;
+//  18 a chosen target and number are in the layout already;
 //  19 a change is due and the generation is 2^32 - 1.
 pub fn grow(l: Layout, offset: u64, mark: u64, table: &mut [TargetRecord]) -> GrownLayout
     ensures { λ r. ⌜ (let o = growOf l (record { offset = offset; mark = mark; table = now (table .entry) }) in

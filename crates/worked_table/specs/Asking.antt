@@ -1,5 +1,5 @@
 -- How the rows of a table of examples are asked and answered: by the definitions of the calls, of whole layouts, so that their
--- validity is asked too. What stands in quotes is document 01's.
+-- validity is asked too. What is in quotes is document 01's.
 use Prim.Native.Nat.{ℕ}
 use mathlib.Core.List.{List, [], _∷_}
 use mathlib.Core.Bool.{Bool, true, false}
@@ -26,8 +26,8 @@ use Rattle.free_table.specs.Table.{tableOk, freeBelow, usable}
 use Rattle.free_table.specs.Choosing.{chosen}
 use Rattle.growth_rules.specs.Parts.{leaving, granting, following, freshId}
 use Rattle.growth_rules.specs.Steps.{Call, choosing, heldStep, spillStep, lowStep, extensionStep, stepOn}
-use Rattle.growth_rules.specs.Growing.{Outcome, settling, growIn, growOf}
-use Rattle.growth_rules.specs.Moments.{behindCall}
+use Rattle.growth_rules.specs.Growing.{Outcome, outcomeOf, growIn, growOf}
+use Rattle.growth_rules.specs.Moments.{afterCall}
 
 -- What a row asks of a layout.
 pub data Asked : Type 0 where
@@ -40,7 +40,7 @@ pub data Asked : Type 0 where
   -- A call of growth.
   grow : Call → Asked
 
--- A row: what it asks, of a layout that it names, or, as in "then 32M", of the layout behind the row before it.
+-- A row: what it asks, of a layout that it names, or, as in "then 32M", of the layout after the row before it.
 pub data Row : Type 0 where
   of : Layout → Asked → Row
   next : Asked → Row
@@ -57,7 +57,7 @@ pub data Reply : Type 0 where
   grown : Outcome → Reply
 
 -- The home that the paper tells by component id, stripe and object byte: the object is that of the stripe's object record in the
--- component with that id. (Where there is no such record it is the blank object, which stands in no layout of the examples.)
+-- component with that id. (If there is no such record it is the blank object, which is in no layout of the examples.)
 abbrev pub homeBy : List Component → ℕ → ℕ → ℕ → Home
 homeBy cs id stripe byte = inObject (Option·getD (stripeObject cs id stripe) noObject) byte
 
@@ -74,18 +74,18 @@ replyOf l (cut offset bytes) =
     (roomAfter (checked l (cutRefusal offset bytes (length room) (view l))) (cutPieces offset bytes (view l)) room)
 replyOf l (grow k) = grown (growOf l k)
 
--- The layout behind a row: growth may change it, the other calls leave it as it is.
+-- The layout after a row: growth may change it, the other calls leave it as it is.
 abbrev pub layoutBehind : Layout → Asked → Layout
 layoutBehind l (lookup b) = l
 layoutBehind l (back id stripe byte) = l
 layoutBehind l (cut offset bytes) = l
-layoutBehind l (grow k) = behindCall l k
+layoutBehind l (grow k) = afterCall l k
 
--- The answers to rows, asked one after another, where `l` is the layout behind the row before them. Each example is computed by
+-- The answers to rows, asked one after another, where `l` is the layout after the row before them. Each example is computed by
 -- this definition, so its second line names all that is to be computed.
 unfoldable pub repliesFrom : Layout → List Row → List Reply
 unfolding lookupOf lookupRefusal homeOf homeIn hasHome backOf backRefusal byteOf hiddenRefusal fileByteIn cutOf
-    refusalBy tooMany roomAfter unitEnd unitCount unitOf stripeOf objectByte fileByte growOf growIn settling stepOn
+    refusalBy tooMany roomAfter unitEnd unitCount unitOf stripeOf objectByte fileByte growOf growIn outcomeOf stepOn
     extensionStep lowStep spillStep heldStep choosing following granting leaving freshId chosen usable freeBelow tableOk
     valid ruleBroken fieldsOk kindOk extensionOk stripedOk nonzeroMultiple firstTargetOk isTarget isMinusOne
     neighboursHold distinctHold sameObject packObjects packComponents initOf bareOf extensionOf layoutA layoutB

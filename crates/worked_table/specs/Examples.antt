@@ -1,10 +1,11 @@
--- Document 01's "Table of proved examples", rows a to m, under one statement. What stands in quotes is the paper's. Where it
+-- Document 01's "Table of proved examples", rows a to m, under one statement. What is in quotes is the paper's. If it
 -- leaves an object open, one is chosen: in layout A component 1 has the object (target 0, number 10) and component 2 has (1, 11),
 -- (2, 12) and (3, 13), one for each stripe; in layout B component 1 has (0, 10).
 use Prim.Native.Nat.{ℕ}
 use mathlib.Core.Path.{_≡_, refl}
 use mathlib.Core.List.{List, [], _∷_}
 use mathlib.Core.Option.{some}
+use Rattle.layout.specs.declared.Component.{Component}
 use Rattle.layout.specs.declared.Layout.{Layout}
 use Rattle.layout.specs.Records.{packed}
 use Rattle.layout.specs.Rows.{objectOf}
@@ -58,6 +59,13 @@ questions =
 abbrev pub homeAt : ℕ → ℕ → ℕ → Reply
 homeAt id stripe byte = lookedUp (gives (some (homeBy layoutA id stripe byte)))
 
+-- Component 1 from row j on, and component 3 from row k on.
+abbrev one : Component
+one = initOf 1 0 (mega 32) (mega 1) 0 (objectOf 0 10 ∷ [])
+
+abbrev three : Component
+three = initOf 3 (mega 32) (mega 56) (mega 1) 1 (objectOf 1 30 ∷ [])
+
 -- What is answered, row by row. Rows j to m have all the components afterwards, also those that the paper does not repeat.
 abbrev pub answers : List Reply
 answers =
@@ -81,32 +89,25 @@ answers =
     ∷ cutInto (gives 2) (allNumbers (piece 2097150 2 1 0 2097150 ∷ piece 2097152 2 2 2 0 ∷ []))
     -- j: "1 [0, 32M), 2 [32M, 100M)"
     ∷ growsTo 10
-    (initOf 1 0 (mega 32) (mega 1) 0 (objectOf 0 10 ∷ [])
-    ∷ extensionOf 2 (mega 32) (mega 100) (mega 16)
+    (one ∷ extensionOf 2 (mega 32) (mega 100) (mega 16)
     ∷ bareOf 3 (mega 100) (mega 100) 1 (mega 1)
     ∷ extensionOf 4 (mega 100) eof (mega 24)
     ∷ [])
     (usableAt 0 20 ∷ usableAt 1 30 ∷ [])
     -- k: "1 [0, 32M), 3 [32M, 56M) on 1, 4 [56M, EOF)"
     ∷ growsTo 11
-    (initOf 1 0 (mega 32) (mega 1) 0 (objectOf 0 10 ∷ [])
-    ∷ initOf 3 (mega 32) (mega 56) (mega 1) 1 (objectOf 1 30 ∷ [])
-    ∷ extensionOf 4 (mega 56) eof (mega 24)
+    (one ∷ three ∷ extensionOf 4 (mega 56) eof (mega 24)
     ∷ [])
     (lowAt 0 20 ∷ usableAt 1 31 ∷ [])
     -- l: "new id 2 [56M, 80M) on 0, 4 [80M, EOF)"
     ∷ growsTo 12
-    (initOf 1 0 (mega 32) (mega 1) 0 (objectOf 0 10 ∷ [])
-    ∷ initOf 3 (mega 32) (mega 56) (mega 1) 1 (objectOf 1 30 ∷ [])
-    ∷ initOf 2 (mega 56) (mega 80) (mega 1) 0 (objectOf 0 20 ∷ [])
+    (one ∷ three ∷ initOf 2 (mega 56) (mega 80) (mega 1) 0 (objectOf 0 20 ∷ [])
     ∷ extensionOf 4 (mega 80) eof (mega 24)
     ∷ [])
     (usableAt 0 21 ∷ lowAt 1 31 ∷ [])
     -- m: "2 [56M, 104M), 4 [104M, EOF)"
     ∷ growsTo 13
-    (initOf 1 0 (mega 32) (mega 1) 0 (objectOf 0 10 ∷ [])
-    ∷ initOf 3 (mega 32) (mega 56) (mega 1) 1 (objectOf 1 30 ∷ [])
-    ∷ initOf 2 (mega 56) (mega 104) (mega 1) 0 (objectOf 0 20 ∷ [])
+    (one ∷ three ∷ initOf 2 (mega 56) (mega 104) (mega 1) 0 (objectOf 0 20 ∷ [])
     ∷ extensionOf 4 (mega 104) eof (mega 24)
     ∷ [])
     (lowAt 0 21 ∷ lowAt 1 31 ∷ [])

@@ -1,5 +1,5 @@
--- Further examples of growth, as one table under one statement: each refusal, which one is given where several apply, and the
--- edges of each step. What stands in quotes is document 01's.
+-- Further examples of growth, as one table under one statement: each refusal, which one is given if several apply, and the
+-- edges of each step. What is in quotes is document 01's.
 use Prim.Native.Nat.{ℕ, zero, suc, _+_, _-_, _*_}
 use mathlib.Core.Path.{_≡_, refl}
 use mathlib.Core.List.{List, [], _∷_, _++_}
@@ -52,6 +52,14 @@ targets (suc n) from = usableAt from 70 ∷ targets n (from + 1)
 abbrev pub firstTo : ℕ → Component
 firstTo end = initOf 1 0 end (mega 1) 5 (objectOf 5 1 ∷ [])
 
+-- The components after a spill-over of the byte range from 1M to `end` onto component 3, whose one object is given.
+abbrev spilledTo : ℕ → ℕ → ℕ → List Component
+spilledTo end target number =
+    firstTo (mega 1)
+    ∷ initOf 3 (mega 1) end (mega 1) target (objectOf target number ∷ [])
+    ∷ extensionOf 4 end eof (mega 1)
+    ∷ []
+
 -- n init components of 64 KiB, of which the first has the id i + 1, lies on target i and begins at i times 64 KiB.
 abbrev pub inits : ℕ → ℕ → List Component
 inits zero i = []
@@ -100,7 +108,7 @@ questions =
     on 5 (bareOf 3 0 0 4 (mega 1) ∷ []) 0 twice
     -- 10: at the end of the last component; the table is bad too
     ∷ on 5 layoutA eof twice
-    -- 15: a target that stands twice, 65 targets, and target 65,535; nothing would have been chosen
+    -- 15: a target that is there twice, 65 targets, and target 65,535; nothing would have been chosen
     ∷ on 5 layoutA 0 twice
     ∷ on 5 layoutA 0 (targets 65 0)
     ∷ on 5 layoutA 0 (usableAt 65535 70 ∷ [])
@@ -112,9 +120,9 @@ questions =
     -- 16 for an extension whose component is not init, and in a spill-over
     ∷ on 5 nothingInit 0 (usableAt 0 70 ∷ [])
     ∷ on 5 beforeBare (mega 1) three
-    -- 17: a repeat where there are 16 components; the object (0, 1) stands in the layout, and the generation is the highest
+    -- 17: a repeat with 16 components there; the object (0, 1) is in the layout, and the generation is the highest
     ∷ on highest (sixteenTo eof) (15 * 65536) (usableAt 0 1 ∷ [])
-    -- 18: the object (0, 10) stands in the layout; the generation is the highest
+    -- 18: the object (0, 10) is in the layout; the generation is the highest
     ∷ on highest layoutA (mega 16) (usableAt 0 10 ∷ usableAt 1 71 ∷ usableAt 3 73 ∷ usableAt 9 79 ∷ [])
     -- 19
     ∷ on highest layoutA (mega 16) four
@@ -130,7 +138,7 @@ questions =
     ∷ on 5 (twoStripes (mega 4)) (mega 4) (usedUp 5 ∷ usedUp 6 ∷ usableAt 7 70 ∷ usableAt 8 70 ∷ [])
     -- a grant that does not reach the offset
     ∷ on 5 nothingInit (mega 8) four
-    -- a grant where begin + extension size passes 2^64
+    -- a grant with begin + extension size past 2^64
     ∷ on 5 (firstTo (eof - 100) ∷ extensionOf 2 (eof - 100) eof 65536 ∷ []) (eof - 1) (usableAt 5 70 ∷ [])
     -- spill-over onto an init component
     ∷ on 5 beforeInit (mega 1) four
@@ -140,9 +148,9 @@ questions =
     ∷ on 5 (beforeEmpty (mega 2) (mega 3) (mega 16)) (mega 1) four
     -- spill-over that does not reach the offset
     ∷ on 5 (beforeEmpty (mega 8) eof (mega 1)) (mega 7) four
-    -- spill-over where N's new begin + Y's extension size passes 2^64
+    -- spill-over with N's new begin + Y's extension size past 2^64
     ∷ on 5 (beforeEmpty (eof - 100) eof 18446744073709486080) (mega 1) four
-    -- a repeat that empties the extension, where there are 16 components
+    -- a repeat that empties the extension, with 16 components there
     ∷ on 5 (sixteenTo (16 * 65536)) (15 * 65536) four
     -- forced extension: one usable target of the two wanted; a table without records
     ∷ on 5 (twoStripes (mega 4)) (mega 4) (usableAt 0 70 ∷ lowAt 5 70 ∷ usedUp 6 ∷ [])
@@ -198,10 +206,7 @@ answers =
     ∷ growsTo 6 (firstTo eof ∷ []) (usableAt 5 70 ∷ [])
     -- spill-over onto an init component
     ∷ growsTo 6
-    (firstTo (mega 1)
-    ∷ initOf 3 (mega 1) (mega 3) (mega 1) 5 (objectOf 5 2 ∷ [])
-    ∷ extensionOf 4 (mega 3) eof (mega 1)
-    ∷ [])
+    (spilledTo (mega 3) 5 2)
     four
     -- spill-over onto a bare component without an extension
     ∷ growsTo 6
@@ -215,10 +220,7 @@ answers =
     fourAfterOne
     -- spill-over that does not reach the offset
     ∷ growsTowards 6
-    (firstTo (mega 1)
-    ∷ initOf 3 (mega 1) (mega 2) (mega 1) 0 (objectOf 0 70 ∷ [])
-    ∷ extensionOf 4 (mega 2) eof (mega 1)
-    ∷ [])
+    (spilledTo (mega 2) 0 70)
     fourAfterOne
     -- spill-over up to EOF
     ∷ growsTo 6 (firstTo (mega 1) ∷ initOf 3 (mega 1) eof (mega 1) 0 (objectOf 0 70 ∷ []) ∷ []) fourAfterOne

@@ -4,9 +4,6 @@ use Rattle.free_table.specs.Table.{freeBelow}
 use Rattle.free_table.proofs.free_below.Statement.{statement}
 use Rattle.free_table.proofs.free_below.Tie as tie
 
-returns : tie.Need-returns
-unfolding freeBelow
-returns c = refl
-
 pub free-below-spec : {M : Type 1} → statement M
-free-below-spec = tie.close (tie.spec returns)
+unfolding freeBelow
+free-below-spec = tie.close (tie.spec (λ c. refl))

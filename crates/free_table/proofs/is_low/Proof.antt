@@ -19,9 +19,6 @@ Inv-loop mark target t n i₀ i =
 abbrev μ-loop : tie.MeasureT-loop
 μ-loop mark target t n i₀ i = n - i
 
-loop-holds : tie.Need-loop-holds Inv-loop μ-loop
-loop-holds c = (search needs, refl)
-
 -- The records from i on are record i and those after it.
 next : (c : tie.In-loop Inv-loop μ-loop) → Turn (c .before .before .args .t1) (c .before .loop .i)
 next c =
@@ -47,5 +44,5 @@ returns-2 c =
 
 pub is-low-spec : {M : Type 1} → statement M
 is-low-spec =
-    tie.close (tie.spec Inv-loop μ-loop loop-holds (λ c. search needs) (λ c. search needs) (λ c κs. search needs)
+    tie.close (tie.spec Inv-loop μ-loop (λ c. (search needs, refl)) (λ c. search needs) (λ c. search needs) (λ c κs. search needs)
     returns (λ c. search needs) (λ c. search needs) loop-again returns-2)

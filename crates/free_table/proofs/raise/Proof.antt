@@ -1,4 +1,4 @@
--- `free_table::raise` meets its contract: the first i records are those of the table behind the choice.
+-- `free_table::raise` meets its contract: the first i records are those of the table after the choice.
 use Prim.Native.Nat.{ℕ, _≤_, _-_}
 use mathlib.Core.Path.{_≡_, refl, sym, ap, _∙_}
 use mathlib.Core.List.{List}

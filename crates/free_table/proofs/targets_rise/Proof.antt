@@ -1,5 +1,5 @@
 -- `free_table::targets_rise` meets its contract: the records rise exactly if those from i on rise from the lowest target that may
--- stand there.
+-- be there.
 use Prim.Native.Nat.{ℕ, _≤_, _<_, _-_}
 use mathlib.Core.Path.{_≡_, refl, sym, _∙_}
 use native.Mathlib.Omega.{arith}
@@ -19,9 +19,6 @@ Inv-loop t n from₀ i₀ from i =
 
 abbrev μ-loop : tie.MeasureT-loop
 μ-loop t n from₀ i₀ from i = n - i
-
-loop-holds : tie.Need-loop-holds Inv-loop μ-loop
-loop-holds c = (search needs, refl)
 
 -- The records from i on are record i and those after it.
 next : (c : tie.In-loop Inv-loop μ-loop) → Turn (c .before .before .args .t1) (c .before .loop .i)
@@ -57,5 +54,5 @@ returns-3 c =
 
 pub targets-rise-spec : {M : Type 1} → statement M
 targets-rise-spec =
-    tie.close (tie.spec Inv-loop μ-loop loop-holds (λ c. search needs) (λ c. search needs) returns returns-2
+    tie.close (tie.spec Inv-loop μ-loop (λ c. (search needs, refl)) (λ c. search needs) (λ c. search needs) returns returns-2
     (λ c. search needs) (λ c. search needs) (λ c. search needs) loop-again returns-3)

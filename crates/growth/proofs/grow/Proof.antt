@@ -5,7 +5,7 @@ use borrow.Author.Tests.{not-true, not-false}
 use Rattle.growth_rules.specs.Steps.{Call}
 use Rattle.growth_rules.specs.Growing.{Outcome}
 use Rattle.growth.specs.Answers.{callOf, GrownSays}
-use Rattle.growth.specs.SettlingLaws.{grow-invalid, grow-checked}
+use Rattle.growth.specs.OutcomeLaws.{grow-invalid, grow-checked}
 use Rattle.growth.proofs.grow.Statement.{statement}
 use Rattle.growth.proofs.grow.Tie as tie
 

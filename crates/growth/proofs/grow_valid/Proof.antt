@@ -15,7 +15,7 @@ use Rattle.growth_rules.specs.Steps.{Call}
 use Rattle.growth_rules.specs.Growing.{Outcome}
 use Rattle.growth_rules.specs.StepLaws.{past-holder}
 use Rattle.growth.specs.Answers.{callOf, GrownSays}
-use Rattle.growth.specs.SettlingLaws.{grow-past, grow-bad-table, grow-settles}
+use Rattle.growth.specs.OutcomeLaws.{grow-past, grow-bad-table, grow-steps}
 use Rattle.growth.proofs.grow_valid.Statement.{statement}
 use Rattle.growth.proofs.grow_valid.Tie as tie
 
@@ -60,8 +60,8 @@ returns-2 c =
 plan-at-requires : tie.Need-plan-at-requires
 plan-at-requires c κs = (c .before .before .before .before .before .pre, c .before .before .if1 .left, good c)
 
-settle-requires : tie.Need-settle-requires
-settle-requires c κs =
+of-step-requires : tie.Need-of-step-requires
+of-step-requires c κs =
     let s = c .before .before .before .before .before .before in (
       s .pre,
       good (c .before),
@@ -72,10 +72,10 @@ returns-3 : tie.Need-returns-3
 returns-3 c =
     let s = c .before .before .before .before .before .before .before in
     let a = s .args in
-    let e = grow-settles (a .l) (call s) (inside (c .before .before .before .before)) (good (c .before .before)) in
-    subst (λ (o : Outcome). GrownSays (a .t) (c .settle .result) o) (sym e) (c .settle .ensures)
+    let e = grow-steps (a .l) (call s) (inside (c .before .before .before .before)) (good (c .before .before)) in
+    subst (λ (o : Outcome). GrownSays (a .t) (c .of-step .result) o) (sym e) (c .of-step .ensures)
 
 pub grow-valid-spec : {M : Type 1} → statement M
 grow-valid-spec =
-    tie.close (tie.spec (λ c κs. search needs) (λ c κs. search needs) returns (λ c κs. search needs) (λ c κs. search needs)
-    returns-2 plan-at-requires settle-requires returns-3)
+    tie.close (tie.spec (λ c κs. search needs) (λ c κs. search needs) returns (λ c κs. search needs)
+    (λ c κs. search needs) returns-2 plan-at-requires of-step-requires returns-3)

@@ -1,4 +1,4 @@
--- `growth::changing::changed` meets its contract: the components by the plan stand in the first places of the array.
+-- `growth::changing::changed` meets its contract: the components by the plan are in the first places of the array.
 use mathlib.Core.Path.{_≡_, ap, _∙_}
 use mathlib.Core.List.{List}
 use native.Mathlib.Omega.{arith}
@@ -25,4 +25,5 @@ returns c =
 
 pub changed-spec : {M : Type 1} → statement M
 changed-spec =
-    tie.close (tie.spec (λ c κs. search needs) (λ c. search needs) (λ c κs. search needs) (λ c κs. search needs) returns)
+    tie.close (tie.spec (λ c κs. search needs) (λ c. search needs) (λ c κs. search needs) (λ c κs. search needs)
+    returns)

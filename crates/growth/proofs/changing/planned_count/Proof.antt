@@ -1,4 +1,4 @@
--- `growth::changing::planned_count` meets its contract: two components stand there where an extension has bytes left, else
+-- `growth::changing::planned_count` meets its contract: two components are there if an extension has bytes left, else
 -- one.
 use borrow.Author.Needs.{needs}
 use Rattle.growth.proofs.changing.planned_count.Statement.{statement}

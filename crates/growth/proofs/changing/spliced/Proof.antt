@@ -1,16 +1,16 @@
--- `growth::changing::spliced` meets its contract: one component is stored or two, and those that follow behind them.
+-- `growth::changing::spliced` meets its contract: one component is stored or two, and those that follow after them.
 use Prim.Native.Nat.{suc, _+_}
 use mathlib.Core.Path.{_≡_}
 use native.Mathlib.Omega.{arith}
 use native.Mathlib.Numerals.{add-one}
 use borrow.Author.Needs.{needs}
 use borrow.Author.Tests.{not-true, not-false}
-use Rattle.growth.specs.SpliceLaws.{standing-some}
+use Rattle.growth.specs.SpliceLaws.{replacement-some}
 use Rattle.growth.proofs.changing.spliced.Statement.{statement}
 use Rattle.growth.proofs.changing.spliced.Tie as tie
 
 place : tie.Need-array-set-from-next
-place c = omega (arith, standing-some (c .before .before .args .p))
+place c = omega (arith, replacement-some (c .before .before .args .p))
 
 copy-requires : tie.Need-copy-requires
 copy-requires c κs =

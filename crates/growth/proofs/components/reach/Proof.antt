@@ -1,4 +1,4 @@
--- `growth::components::reach` meets its contract: where the extension's length from `from` on is above its size, the sum is below
+-- `growth::components::reach` meets its contract: if the extension's length from `from` on is above its size, the sum is below
 -- its end.
 use native.Mathlib.Omega.{arith}
 use Rattle.growth.proofs.components.reach.Statement.{statement}

@@ -34,6 +34,19 @@ from c =
     slice-next (a .t1) (a .n) (a .j) unread (omega (arith, c .pre .1)) (omega arith)
     ∙ rw (slice-next (a .t1) (a .n) (a .j + 1) unread (c .pre .1) w, two)
 
+-- The plan that is asked for, by these components.
+asked : (c : tie.Start) → let a = c .args in
+    let plan = extensionPlan (a .mark) (tableOf (a .t)) (freshId (idsOf (take (a .n) (a .t1)))) (a .j) in
+    plan (getD (a .t1) (a .j) unread ∷ (getD (a .t1) (a .j + 1) unread ∷ slice (a .j + 2) (a .n) (a .t1)))
+    ≡ plan (slice (a .j) (a .n) (a .t1))
+asked c =
+    let a = c .args in
+    ap (extensionPlan (a .mark) (tableOf (a .t)) (freshId (idsOf (take (a .n) (a .t1)))) (a .j)) (sym (from c))
+
+-- The start of the function, at the point where a target of the component at position j is low.
+abbrev started : tie.Else2 → tie.Start
+started c = c .before .before .before .before .before .before .before
+
 choosing-requires : tie.Need-choosing-requires
 choosing-requires c κs =
     let s = c .before .before .before .before .before in
@@ -43,13 +56,10 @@ returns : tie.Need-returns
 returns c =
     let s = c .before .before .before .before .before .before in
     let a = s .args in
-    let d = getD (a .t1) (a .j) unread in
-    let x = getD (a .t1) (a .j + 1) unread in
-    let new = freshId (idsOf (take (a .n) (a .t1))) in
     c .choosing .ensures
     ∙ rw (c .before .before .before .granting .ensures)
-    (sym (extension-chooses (a .mark) (tableOf (a .t)) new (a .j) d x (slice (a .j + 2) (a .n) (a .t1)) (not-true (d .init) (c .before .if1 .taken))))
-    ∙ ap (extensionPlan (a .mark) (tableOf (a .t)) new (a .j)) (sym (from s))
+    (sym (extension-chooses (a .mark) (tableOf (a .t)) _ (a .j) _ _ _ (not-true _ (c .before .if1 .taken))))
+    ∙ asked s
 
 any-low-requires : tie.Need-any-low-requires
 any-low-requires c κs =
@@ -60,34 +70,29 @@ returns-2 : tie.Need-returns-2
 returns-2 c =
     let s = c .before .before .before .before .before .before .before in
     let a = s .args in
-    let d = getD (a .t1) (a .j) unread in
-    let x = getD (a .t1) (a .j + 1) unread in
-    let new = freshId (idsOf (take (a .n) (a .t1))) in
     let low = c .before .any-low in
     c .before .before .before .before .granting .ensures
-    ∙ sym (extension-grants (a .mark) (tableOf (a .t)) new (a .j) d x (slice (a .j + 2) (a .n) (a .t1))
-    (not-false (d .init) (c .before .before .if1 .left)) (sym (low .ensures) ∙ not-true (low .result) (c .if2 .taken)))
-    ∙ ap (extensionPlan (a .mark) (tableOf (a .t)) new (a .j)) (sym (from s))
+    ∙ sym (extension-grants (a .mark) (tableOf (a .t)) _ (a .j) _ _ _ (not-false _ (c .before .before .if1 .left))
+    (sym (low .ensures) ∙ not-true (low .result) (c .if2 .taken)))
+    ∙ asked s
 
 low-plan-requires : tie.Need-low-plan-requires
 low-plan-requires c κs =
-    let s = c .before .before .before .before .before .before .before in
+    let s = started c in
     (s .pre .0, omega (arith, s .pre .1), s .pre .2, few s, s .pre .3)
 
 returns-3 : tie.Need-returns-3
 returns-3 c =
-    let s = c .before .before .before .before .before .before .before .before in
+    let s = started (c .before) in
     let a = s .args in
-    let d = getD (a .t1) (a .j) unread in
-    let x = getD (a .t1) (a .j + 1) unread in
-    let new = freshId (idsOf (take (a .n) (a .t1))) in
     let low = c .before .before .any-low in
     c .low-plan .ensures
-    ∙ sym (extension-low (a .mark) (tableOf (a .t)) new (a .j) d x (slice (a .j + 2) (a .n) (a .t1))
-    (not-false (d .init) (c .before .before .before .if1 .left)) (sym (low .ensures) ∙ not-false (low .result) (c .before .if2 .left)))
-    ∙ ap (extensionPlan (a .mark) (tableOf (a .t)) new (a .j)) (sym (from s))
+    ∙ sym (extension-low (a .mark) (tableOf (a .t)) _ (a .j) _ _ _ (not-false _ (c .before .before .before .if1 .left))
+    (sym (low .ensures) ∙ not-false (low .result) (c .before .if2 .left)))
+    ∙ asked s
 
 pub extension-plan-spec : {M : Type 1} → statement M
 extension-plan-spec =
-    tie.close (tie.spec (λ c. search needs) (λ c. search needs) (λ c. search needs) (λ c. search needs) (λ c. search needs)
-    (λ c κs. search needs) choosing-requires returns any-low-requires returns-2 low-plan-requires returns-3)
+    tie.close (tie.spec (λ c. search needs) (λ c. search needs) (λ c. search needs) (λ c. search needs)
+    (λ c. search needs) (λ c κs. search needs) choosing-requires returns any-low-requires returns-2 low-plan-requires
+    returns-3)

@@ -4,9 +4,6 @@ use Rattle.growth.specs.Plans.{noPlan}
 use Rattle.growth.proofs.plans.no_plan.Statement.{statement}
 use Rattle.growth.proofs.plans.no_plan.Tie as tie
 
-returns : tie.Need-returns
-unfolding noPlan
-returns c = refl
-
 pub no-plan-spec : {M : Type 1} → statement M
-no-plan-spec = tie.close (tie.spec returns)
+unfolding noPlan
+no-plan-spec = tie.close (tie.spec (λ c. refl))

@@ -11,7 +11,7 @@ use Rattle.layout.specs.Facts.{Valid}
 use Rattle.layout.specs.FactLaws.{valid-facts, kind-few}
 use Rattle.layout.specs.ArrayLaws.{component-at, component-kind}
 use Rattle.layout.proofs.Unread.{unread}
-use Rattle.growth_rules.specs.StepLaws.{extension-behind}
+use Rattle.growth_rules.specs.StepLaws.{extension-after}
 use Rattle.growth.specs.Answers.{callOf}
 use Rattle.growth.specs.PlanCases.{held-for, extension-for}
 use Rattle.growth.proofs.plans.plan_at.Statement.{statement}
@@ -29,12 +29,12 @@ is-extension c =
     ap (λ (d : Component). d .extension) (component-at (s .args .l) (facts s) unread (s .args .i) (s .pre .1))
     ∙ not-false (x .extension) (c .if1 .left)
 
--- so that it does not stand first.
+-- so that it is not first.
 not-first : (c : tie.Else1) → 0 < c .before .before .before .before .args .i
 not-first c =
     let s = c .before .before .before .before in
     let v = facts s in
-    extension-behind _ 0 (view (s .args .l)) noComponent (s .args .i) (v .keeps .linked)
+    extension-after _ 0 (view (s .args .l)) noComponent (s .args .i) (v .keeps .linked)
     (omega (arith, v .whole, s .pre .1)) (is-extension c)
 
 held-plan-requires : tie.Need-held-plan-requires

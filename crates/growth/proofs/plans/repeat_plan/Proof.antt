@@ -28,5 +28,5 @@ returns-2 c = rw (← made (c .before), c .if1 .left)
 
 pub repeat-plan-spec : {M : Type 1} → statement M
 repeat-plan-spec =
-    tie.close (tie.spec (λ c κs. search needs) (λ c. search needs) (λ c κs. search needs) choosing-requires (λ c κs. search needs)
-    returns returns-2)
+    tie.close (tie.spec (λ c κs. search needs) (λ c. search needs) (λ c κs. search needs) choosing-requires
+    (λ c κs. search needs) returns returns-2)

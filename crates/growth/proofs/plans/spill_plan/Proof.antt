@@ -32,5 +32,5 @@ returns-2 c =
 
 pub spill-plan-spec : {M : Type 1} → statement M
 spill-plan-spec =
-    tie.close (tie.spec (λ c κs. search needs) (λ c. search needs) (λ c κs. search needs) returns (λ c κs. search needs)
-    choosing-requires returns-2)
+    tie.close (tie.spec (λ c κs. search needs) (λ c. search needs) (λ c κs. search needs) returns
+    (λ c κs. search needs) choosing-requires returns-2)

@@ -117,9 +117,7 @@ module _ {M : Type 1} (𝓤 : URA M) (H : Heap 𝓤) (A : Atoms 𝓤) (W : Given
   to-empty m = ((tt, tt, tt, (m, tt), (vint w64 m ∷ [], tt)), tt)
 
   ask-empty : (m : ℕ) → m < 2 ^ 64 → ent 𝓤 (emp 𝓤) (Empty 𝓤 H A mem run .pre (to-empty m))
-  ask-empty m fits =
-      qed W [] ∵ nothing ! $ owned ! usize (Is usize) (uint-makes 𝓤 H A W w64) m _ (refl, fits) $ fjoin ! $ nothing ! $
-      join ! $ frame ! $ done !
+  ask-empty m fits = ask-places m fits
 
   abbrev Emptied : ℕ → Table → SProp 𝓤
   Emptied m = ensured 𝓤 H A empty.ended (empty.clauses 𝓤 H A mem run) tt (m, tt) tt
@@ -185,7 +183,7 @@ module _ {M : Type 1} (𝓤 : URA M) (H : Heap 𝓤) (A : Atoms 𝓤) (W : Given
       move ! (1 ∷ 0 ∷ []) $ fjoin ! $ nothing ! $ move ! (1 ∷ 0 ∷ []) $ fjoin ! $ frame ! $
       owned ! Tab (Is Tab) (tab-makes 𝓤 H A) (acc n) _ is $ done !
 
-  -- Where the loop stands: at i, with machine values of the table.
+  -- Where the loop is: at i, with machine values of the table.
   abbrev Spot : Type 0
   Spot = (i : ℕ) × ((i ≤ n) × Is Tab (acc i) (tab-vals (acc i)))
 
@@ -212,12 +210,12 @@ module _ {M : Type 1} (𝓤 : URA M) (H : Heap 𝓤) (A : Atoms 𝓤) (W : Given
         ∷ ‵ (fat fullShare SliceTy l₁ 0 s) ∷ ‵ (fdies SliceTy l₁) ∷ ‵ (froom tab-mir l₀ 0) ∷ ‵ (fdies tab-mir l₀)
         ∷ ‵ Shr ∷ ‵ (flft κ q) ∷ ‵ Res ∷ ‵ (at-slice Row x (s ∷ [])) ∷ []
 
-    -- After a turn the loop stands nearer to n, or it is left and the rest of the body runs.
+    -- After a turn the loop is nearer to n, or it is left and the rest of the body runs.
     abbrev Turned : Spot → Out → SProp 𝓤
     Turned p = afterTurn 𝓤 H (Below 𝓤 H A Nearer At p)
         (afterBlock 𝓤 H (afterSeq 𝓤 H (Wp 𝓤 H (𝓣 .C) (𝓣 .Λ) En text.t-6 (atReturn 𝓤 H En Post)) (atReturn 𝓤 H En Post)))
 
-    -- Where it stands then.
+    -- Where it is then.
     next : (p : Spot) (r : Table) (v : Val) → p .0 < n → r ≡ acc (p .0 + 1) → Is Tab r (v ∷ []) → Spot
     next p r v l e is = (p .0 + 1, (next-le l, tab-at r (acc (p .0 + 1)) v is e))
 

@@ -153,7 +153,7 @@ module _ {M : Type 1} (𝓤 : URA M) (H : Heap 𝓤) (A : Atoms 𝓤) (W : Given
       nothing ! $ owned ! Tab (Is Tab) (tab-makes 𝓤 H A) t _ is-t $ fjoin ! $ move ! (1 ∷ 0 ∷ []) $ fjoin ! $
       feqI ! (List Val) (vunit ∷ []) (vunit ∷ []) refl $ move ! (1 ∷ 0 ∷ []) $ done !
 
-  -- Where the loop stands.
+  -- Where the loop is.
   abbrev Spot : Type 0
   Spot = (i : ℕ) × (i ≤ n)
 
@@ -181,7 +181,7 @@ module _ {M : Type 1} (𝓤 : URA M) (H : Heap 𝓤) (A : Atoms 𝓤) (W : Given
         ∷ ‵ (row Row fullShare (zs (p .0)) b o) ∷ ‵ (fobor κ q (Held Row (length ys) b o γ))
         ∷ ‵ (fobs γ (codedHoleys Row .code (heres Row ys))) ∷ ‵ (fauth γ (codedHoleys Row .code (heres Row ys))) ∷ []
 
-    -- After a turn the loop stands nearer to n, or it is left and the rest of the body runs.
+    -- After a turn the loop is nearer to n, or it is left and the rest of the body runs.
     abbrev Turned : Spot → Out → SProp 𝓤
     Turned p = afterTurn 𝓤 H (Below 𝓤 H A Nearer At p)
         (afterBlock 𝓤 H (afterSeq 𝓤 H (Wp 𝓤 H (𝓣 .C) (𝓣 .Λ) En text.t-4 (atReturn 𝓤 H En Post)) (atReturn 𝓤 H En Post)))

@@ -1,4 +1,4 @@
--- `growth::settling::stands` meets its contract. The loop's invariant: what is asked of all object records is asked of those
+-- `growth::outcomes::is_among` meets its contract. The loop's invariant: what is asked of all object records is asked of those
 -- from i on.
 use Prim.Native.Nat.{suc, _-_, _≤_, _<_}
 use mathlib.Core.Path.{_≡_, refl, sym, _∙_}
@@ -12,8 +12,8 @@ use Rattle.lists.specs.Loops.{row-pass, row-hit, row-done}
 use Rattle.layout.specs.Records.{noObject}
 use Rattle.layout.specs.Rows.{objectOf, named, getD-named, length-named}
 use Rattle.layout.specs.Distinct.{sameObject}
-use Rattle.growth.proofs.settling.stands.Statement.{statement}
-use Rattle.growth.proofs.settling.stands.Tie as tie
+use Rattle.growth.proofs.outcomes.is_among.Statement.{statement}
+use Rattle.growth.proofs.outcomes.is_among.Tie as tie
 
 abbrev Inv-loop : tie.InvT-loop
 Inv-loop targets numbers n target number i₀ i =
@@ -60,7 +60,7 @@ returns-2 c =
     sym (p .loop .inv .1
     ∙ row-done sameObject (named (now (a .targets)) (now (a .numbers))) (a .n) (p .loop .i) _ (c .loop-test .left))
 
-pub stands-spec : {M : Type 1} → statement M
-stands-spec =
+pub is-among-spec : {M : Type 1} → statement M
+is-among-spec =
     tie.close (tie.spec Inv-loop μ-loop loop-holds (λ c. search needs) (λ c. search needs) (λ c. search needs)
     (λ c. search needs) (λ c κs. search needs) returns (λ c. search needs) (λ c. search needs) loop-again returns-2)

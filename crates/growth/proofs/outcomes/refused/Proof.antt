@@ -1,9 +1,9 @@
--- `growth::settling::refused` meets its contract: a table with its own records is the same table.
+-- `growth::outcomes::refused` meets its contract: a table with its own records is the same table.
 use mathlib.Core.Path.{refl}
 use Rattle.growth.specs.Answers.{growSays}
 use Rattle.growth.specs.AnswerLaws.{same-table}
-use Rattle.growth.proofs.settling.refused.Statement.{statement}
-use Rattle.growth.proofs.settling.refused.Tie as tie
+use Rattle.growth.proofs.outcomes.refused.Statement.{statement}
+use Rattle.growth.proofs.outcomes.refused.Tie as tie
 
 returns : tie.Need-returns
 unfolding growSays

@@ -16,7 +16,7 @@ use Rattle.layout.specs.Holder.{lastEnd}
 use Rattle.free_table.specs.Table.{usable, tableOk}
 use Rattle.free_table.specs.Choosing.{raisedFirst}
 use Rattle.growth_rules.specs.Steps.{Call, Step, stays, lacks, changes}
-use Rattle.growth_rules.specs.Growing.{Outcome, meets, stepOf, refusing, accepting, settling, growIn, growOf}
+use Rattle.growth_rules.specs.Growing.{Outcome, meets, stepOf, refusing, accepting, outcomeOf, growIn, growOf}
 use Rattle.growth.specs.declared.Plan.{Plan}
 use Rattle.growth.specs.Plans.{planned, plannedObjects, planSays, changeRefusal}
 
@@ -71,8 +71,8 @@ module _ (l : Layout) (k : Call) (cs : List Component) (os : List Object) where
   changed = accepting l k true (packed (l .generation + 1) cs) (raisedFirst (usable (k .mark)) (length os) (k .table))
 
   -- A change is refused by its number.
-  pub change-refused : (n : ℕ) → n ≡ changeRefusal l cs os → (n ≡ 0 → ⊥) → settling l k (changes cs os) ≡ refusing l k n
-  unfolding changeRefusal settling
+  pub change-refused : (n : ℕ) → n ≡ changeRefusal l cs os → (n ≡ 0 → ⊥) → outcomeOf l k (changes cs os) ≡ refusing l k n
+  unfolding changeRefusal outcomeOf
   change-refused n e z = refused-by (refusing l k) changed many met spent n e z
 
   -- An accepted change: nothing refuses it, and it gives what it gives.
@@ -80,10 +80,10 @@ module _ (l : Layout) (k : Call) (cs : List Component) (os : List Object) where
     pub few : length cs ≤ 16
     pub apart : meets os (recordsIn (view l)) ≡ false
     pub below : l .generation ≡ 4294967295 → ⊥
-    pub gives : settling l k (changes cs os) ≡ changed
+    pub gives : outcomeOf l k (changes cs os) ≡ changed
 
   pub change-accepted : (n : ℕ) → n ≡ changeRefusal l cs os → n ≡ 0 → Accepted
-  unfolding changeRefusal settling
+  unfolding changeRefusal outcomeOf
   change-accepted n e z =
       let a = accepted-by (refusing l k) changed many met spent n e z in
       record {
@@ -96,7 +96,7 @@ module _ (l : Layout) (k : Call) (cs : List Component) (os : List Object) where
 -- What a call gives, by the refusals that are asked before its step is made.
 module _ (l : Layout) (k : Call) where
   abbrev goodBy : Bool → Outcome
-  goodBy t = cond t (settling l k (stepOf l k)) (refusing l k 15)
+  goodBy t = cond t (outcomeOf l k (stepOf l k)) (refusing l k 15)
 
   abbrev pastBy : Bool → Outcome
   pastBy t = cond t (refusing l k 10) (goodBy (tableOk (k .table)))
@@ -109,10 +109,10 @@ module _ (l : Layout) (k : Call) where
   unfolding growIn
   grow-bad-table e f = ap pastBy e ∙ ap goodBy f
 
-  pub grow-settles : leb (lastEnd (view l)) (k .offset) ≡ false → tableOk (k .table) ≡ true
-      → growIn l k ≡ settling l k (stepOf l k)
+  pub grow-steps : leb (lastEnd (view l)) (k .offset) ≡ false → tableOk (k .table) ≡ true
+      → growIn l k ≡ outcomeOf l k (stepOf l k)
   unfolding growIn
-  grow-settles e f = ap pastBy e ∙ ap goodBy f
+  grow-steps e f = ap pastBy e ∙ ap goodBy f
 
   pub grow-invalid : valid l ≡ false → growOf l k ≡ refusing l k 1
   unfolding growOf

@@ -20,13 +20,13 @@ use Rattle.free_table.specs.Table.{usable, tableOk, anyLow}
 use Rattle.free_table.specs.Choosing.{chosen}
 use Rattle.free_table.specs.ChoosingLaws.{table-facts, chosen-targets, chosen-once}
 use Rattle.growth_rules.specs.Parts.{madeInit, repeatOf, reach, leaving, granting}
-use Rattle.growth_rules.specs.Steps.{Call, Step, stays, lacks, changes, behind, choosing, heldStep, spillStep, lowStep}
+use Rattle.growth_rules.specs.Steps.{Call, Step, stays, lacks, changes, stepAfter, choosing, heldStep, spillStep, lowStep}
 use Rattle.growth_rules.specs.Steps.{extensionStep, stepOn}
-use Rattle.growth_rules.specs.Keeping.{Kept, Chosen, Changed, StepKeeps}
-use Rattle.growth_rules.specs.KeepingLaws.{kept-same, kept-new, kept-behind, kept-gone, kept-renewed, kept-added}
-use Rattle.growth_rules.specs.KeepingLaws.{kept-leaving}
+use Rattle.growth_rules.specs.Replacing.{Replaced, Chosen, Changed, StepKeeps}
+use Rattle.growth_rules.specs.ReplacingLaws.{replaced-same, replaced-new, replaced-after, replaced-gone, replaced-renewed, replaced-added}
+use Rattle.growth_rules.specs.ReplacingLaws.{replaced-leaving}
 use Rattle.growth_rules.specs.RenewingLaws.{init-renewed, bare-renewed, repeat-init, repeat-records}
-use Rattle.growth_rules.specs.PartKeeping.{kind-bare, granting-kept, following-kept, following-some}
+use Rattle.growth_rules.specs.PartReplacing.{kind-bare, granting-replaced, following-replaced, following-some}
 
 -- A component that holds a byte is not empty.
 holds-some : (c : Component) (b : ℕ) → holds c b ≡ true → c .begin < c .end
@@ -47,7 +47,7 @@ module _ (k : Call) (new : ℕ) (table : tableOk (k .table) ≡ true) (one : 1 �
       }
 
   module _ (at : ℕ) (may : Bool) where
-    -- A choice keeps it if what is made of the chosen records does, and what stands in for a choice.
+    -- A choice keeps it if what is made of the chosen records does, and what is done instead of a choice does too.
     choosing-keeps : (t : List Component) (s : ℕ) (made : List Object → List Component) (other : Step)
         → ((os : List Object) → Chosen s os → Changed new at may t (made os) os) → StepKeeps new at may t other
         → StepKeeps new at may t (choosing k s made other)
@@ -69,13 +69,13 @@ module _ (k : Call) (new : ℕ) (table : tableOk (k .table) ≡ true) (one : 1 �
           some = omega arith;
           first = refl;
           once = ch .once;
-          kept = kept-new new
-              (kept-renewed c (madeInit os c) t f (bare-renewed c (c .begin) (c .end) os (kind-bare (f .1) (p .0) (p .1)) ch h)
-              (l .0) (λ i. clash i (p .0)) (kept-same (c .end) (not (c .extension)) t (f .2) (l .3)));
+          replaced = replaced-new new
+              (replaced-renewed c (madeInit os c) t f (bare-renewed c (c .begin) (c .end) os (kind-bare (f .1) (p .0) (p .1)) ch h)
+              (l .0) (λ i. clash i (p .0)) (replaced-same (c .end) (not (c .extension)) t (f .2) (l .3)));
         })
         tt)
 
-    -- The extension x directly behind the component c.
+    -- The extension x directly after the component c.
     module _ (c x : Component) (is : IsExtension x) where
       -- A grant to c, which is init.
       granting-keeps : (t : List Component) → Fields (c ∷ x ∷ t) → Linked false at may (c ∷ x ∷ t) → c .init ≡ true
@@ -85,22 +85,22 @@ module _ (k : Call) (new : ℕ) (table : tableOk (k .table) ≡ true) (one : 1 �
         some = omega arith;
         first = refl;
         once = λ o. omega arith;
-        kept = kept-new new
-            (granting-kept c c x t f l is refl (λ h. init-renewed c (c .begin) (reach (x .begin) x) (kind-init (f .1) i) h));
+        replaced = replaced-new new
+            (granting-replaced c c x t f l is refl (λ h. init-renewed c (c .begin) (reach (x .begin) x) (kind-init (f .1) i) h));
       }
 
-      -- Behind c, which is init and stays.
-      behind-init : (t t' : List Component) (os : List Object) → Fields (c ∷ x ∷ t) → Linked false at may (c ∷ x ∷ t)
+      -- After c, which is init and stays.
+      after-init : (t t' : List Component) (os : List Object) → Fields (c ∷ x ∷ t) → Linked false at may (c ∷ x ∷ t)
           → c .init ≡ true → 1 ≤ length t' → ((o : Object) → count sameObject o os ≤ 1)
-          → Kept (c .end) (c .end) (not (c .extension)) (x ∷ t) t' os (new ∷ []) → Changed new at may (c ∷ x ∷ t) (c ∷ t') os
-      behind-init t t' os f l i filled once kept = record {
+          → Replaced (c .end) (c .end) (not (c .extension)) (x ∷ t) t' os (new ∷ []) → Changed new at may (c ∷ x ∷ t) (c ∷ t') os
+      after-init t t' os f l i filled once replaced = record {
         some = omega arith;
         first = refl;
         once = once;
-        kept = kept-behind c (x ∷ t) f l filled (λ q. clash i q) kept;
+        replaced = replaced-after c (x ∷ t) f l filled (λ q. clash i q) replaced;
       }
 
-      -- Spill-over, where c has a low target and n stands behind x.
+      -- Spill-over, if c has a low target and n is after x.
       spill-keeps : (n : Component) (t : List Component) → Fields (c ∷ x ∷ n ∷ t) → Linked false at may (c ∷ x ∷ n ∷ t)
           → c .init ≡ true → StepKeeps new at may (c ∷ x ∷ n ∷ t) (spillStep k c x n t)
       unfolding spillStep
@@ -111,17 +111,17 @@ module _ (k : Call) (new : ℕ) (table : tableOk (k .table) ≡ true) (one : 1 �
           let ordered = kind-ordered (f .2 .2 .1) in
           cond-elim (StepKeeps new at may (c ∷ x ∷ n ∷ t)) (n .init)
           (λ q. let kind = kind-init (f .2 .2 .1) q in
-          behind-init (n ∷ t) _ [] f l i (omega arith) (λ o. omega arith)
-          (kept-new new
-          (kept-gone x is
-          (kept-renewed n _ t (f .2 .2) (init-renewed n _ _ kind (omega arith)) (omega arith) (λ e. (omega arith, omega arith))
-          (kept-same (n .end) (not (n .extension)) t (f .2 .2 .2) (l .3 .3 .3))))))
+          after-init (n ∷ t) _ [] f l i (omega arith) (λ o. omega arith)
+          (replaced-new new
+          (replaced-gone x is
+          (replaced-renewed n _ t (f .2 .2) (init-renewed n _ _ kind (omega arith)) (omega arith) (λ e. (omega arith, omega arith))
+          (replaced-same (n .end) (not (n .extension)) t (f .2 .2 .2) (l .3 .3 .3))))))
           (λ q. choosing-keeps (c ∷ x ∷ n ∷ t) (n .«stripe_count») _ lacks
-          (λ os ch. behind-init (n ∷ t) _ os f l i (following-some (x .begin) (madeInit os n) t) (ch .once)
-          (kept-new new (following-kept x n t os (f .2) (l .3) is q ch)))
+          (λ os ch. after-init (n ∷ t) _ os f l i (following-some (x .begin) (madeInit os n) t) (ch .once)
+          (replaced-new new (following-replaced x n t os (f .2) (l .3) is q ch)))
           tt)
 
-      -- Repeat, where x is last.
+      -- Repeat, if x is last.
       repeat-keeps : (os : List Object) → Fields (c ∷ x ∷ []) → Linked false at may (c ∷ x ∷ [])
           → c .init ≡ true → Chosen (c .«stripe_count») os → Changed new at may (c ∷ x ∷ [])
           (c ∷ repeatOf new c (x .begin) (reach (x .begin) x) os ∷ leaving (reach (x .begin) x) x []) os
@@ -130,10 +130,10 @@ module _ (k : Call) (new : ℕ) (table : tableOk (k .table) ≡ true) (one : 1 �
           let size = is .size .nonzero in
           let extent = is .extent in
           let kind = kind-init (f .1) i in
-          behind-init [] (repeatOf new c (x .begin) r os ∷ leaving r x []) os f l i (omega arith) (ch .once)
-          (kept-added (repeatOf new c (x .begin) r os) (repeat-init new c (x .begin) r os kind ch (omega arith))
+          after-init [] (repeatOf new c (x .begin) r os ∷ leaving r x []) os f l i (omega arith) (ch .once)
+          (replaced-added (repeatOf new c (x .begin) r os) (repeat-init new c (x .begin) r os kind ch (omega arith))
           (repeat-records new c (x .begin) r os kind ch) one (l .3 .0)
-          (kept-leaving (c .end) r (not (c .extension)) x [] (f .2) (l .3) is (omega arith)))
+          (replaced-leaving (c .end) r (not (c .extension)) x [] (f .2) (l .3) is (omega arith)))
 
       -- The component c has a low target.
       low-keeps : (t : List Component) → Fields (c ∷ x ∷ t) → Linked false at may (c ∷ x ∷ t) → c .init ≡ true
@@ -158,23 +158,23 @@ module _ (k : Call) (new : ℕ) (table : tableOk (k .table) ≡ true) (one : 1 �
             some = omega arith;
             first = refl;
             once = ch .once;
-            kept = kept-new new
-                (granting-kept c (madeInit os c) x t f l is refl
+            replaced = replaced-new new
+                (granting-replaced c (madeInit os c) x t f l is refl
                 (λ h. bare-renewed c (c .begin) (reach (x .begin) x) os bare ch h));
           })
           tt)
 
-  -- A step behind a component.
-  behind-keeps : {at : ℕ} {may : Bool} (c x : Component) (t : List Component) → Fields (c ∷ x ∷ t)
+  -- A step after a component.
+  after-keeps : {at : ℕ} {may : Bool} (c x : Component) (t : List Component) → Fields (c ∷ x ∷ t)
       → Linked false at may (c ∷ x ∷ t) → (s : Step)
-      → StepKeeps new (c .end) (not (c .extension)) (x ∷ t) s → StepKeeps new at may (c ∷ x ∷ t) (behind c s)
-  behind-keeps c x t f l stays kept = tt
-  behind-keeps c x t f l lacks kept = tt
-  behind-keeps c x t f l (changes t' os) kept = record {
+      → StepKeeps new (c .end) (not (c .extension)) (x ∷ t) s → StepKeeps new at may (c ∷ x ∷ t) (stepAfter c s)
+  after-keeps c x t f l stays replaced = tt
+  after-keeps c x t f l lacks replaced = tt
+  after-keeps c x t f l (changes t' os) replaced = record {
     some = omega arith;
     first = refl;
-    once = kept .once;
-    kept = kept-behind c (x ∷ t) f l (kept .some) (λ i. kept .first) (kept .kept);
+    once = replaced .once;
+    replaced = replaced-after c (x ∷ t) f l (replaced .some) (λ i. replaced .first) (replaced .replaced);
   }
 
   -- The step of a call keeps what a step keeps.
@@ -190,4 +190,4 @@ module _ (k : Call) (new : ℕ) (table : tableOk (k .table) ≡ true) (one : 1 �
       (λ e. held-keeps at may c (x ∷ t) f l (holds-some c (k .offset) e))
       (λ e. cond-elim (StepKeeps new at may (c ∷ x ∷ t)) (x .extension && holds x (k .offset))
       (λ q. extension-keeps at may c x (kind-extension (f .2 .1) (both-true (x .extension) (holds x (k .offset)) q .0)) t f l)
-      (λ q. behind-keeps c x t f l (stepOn k new (x ∷ t)) (step-keeps (c .end) (not (c .extension)) (x ∷ t) (f .2) (l .3))))
+      (λ q. after-keeps c x t f l (stepOn k new (x ∷ t)) (step-keeps (c .end) (not (c .extension)) (x ∷ t) (f .2) (l .3))))

@@ -23,14 +23,14 @@ use Rattle.growth_rules.specs.Steps.{Step, stays, lacks, changes}
 abbrev pub NoExtent : {A : Type 0} → (Component → ℕ → A) → Type 0
 NoExtent read = (begin end : ℕ) (c : Component) (b : ℕ) → read (withExtent begin end c) b ≡ read c b
 
--- Where the last component of a list that stands from `from` on ends.
+-- Where the last component of a list that is from `from` on ends.
 abbrev pub endFrom : ℕ → List Component → ℕ
 endFrom from cs = after endOf from (neighboursOf cs)
 
--- The components t stood from `from` on; t' stand in their place, from `to` on, with the object records os and the ids `new`
+-- The components t were from `from` on; t' are in their place, from `to` on, with the object records os and the ids `new`
 -- added. The fields and neighbours are in order, what a reading gave it gives, the last end stays, every object record stays,
 -- and no id is added beside the new ones.
-pub record Kept (from to : ℕ) (may : Bool) (t t' : List Component) (os : List Object) (new : List ℕ) : Type 1 where
+pub record Replaced (from to : ℕ) (may : Bool) (t t' : List Component) (os : List Object) (new : List ℕ) : Type 1 where
   pub fields : Fields t'
   pub linked : Linked false to may t'
   pub readings : {A : Type 0} (read : Component → ℕ → A) → NoExtent read → (b : ℕ) (a : A) → readingOf read b t ≡ some a
@@ -39,7 +39,7 @@ pub record Kept (from to : ℕ) (may : Bool) (t t' : List Component) (os : List 
   pub objects : (o : Object) → count sameObject o (recordsIn t') ≡ count sameObject o (recordsIn t) + count sameObject o os
   pub ids : (i : ℕ) → count eqb i (idsOf t') ≤ count eqb i (idsOf t) + count eqb i new
 
--- The component c' is init and stands for c: with c's id, and where c is init with its readings, but for the extent; it has c's
+-- The component c' is init and replaces c: with c's id, and if c is init with its readings, but for the extent; it has c's
 -- object records and the records os.
 pub record Renewed (c c' : Component) (os : List Object) : Type 1 where
   pub kind : IsInit c'
@@ -53,13 +53,13 @@ pub record Chosen (s : ℕ) (os : List Object) : Type 0 where
   pub targets : (i : ℕ) → i < length os → getD os i noObject .target ≤ 65534
   pub once : (o : Object) → count sameObject o os ≤ 1
 
--- A change of the components t that stand from `at` on, with `new` as the only id that may be added: there is a component
+-- A change of the components t that are from `at` on, with `new` as the only id that may be added: there is a component
 -- afterwards, it is an extension exactly if the one before was, and no object record is added twice.
 pub record Changed (new at : ℕ) (may : Bool) (t t' : List Component) (os : List Object) : Type 1 where
   pub some : 1 ≤ length t'
   pub first : startsExtension t' ≡ startsExtension t
   pub once : (o : Object) → count sameObject o os ≤ 1
-  pub kept : Kept at at may t t' os (new ∷ [])
+  pub replaced : Replaced at at may t t' os (new ∷ [])
 
 -- What a step on these components makes of them is such a change, if it changes them.
 abbrev pub StepKeeps : ℕ → ℕ → Bool → List Component → Step → Type 1

@@ -20,7 +20,7 @@ ghost use Rattle.layout.specs.Rules.{valid};
 ghost use Rattle.mapping.specs.Answers.{gives};
 ghost use Rattle.mapping.specs.Homes.{hasHome};
 ghost use Rattle.free_table.specs.Table.{tableOf, tableOk};
-ghost use Rattle.growth_rules.specs.Growing.{meets, stepOf, settling};
+ghost use Rattle.growth_rules.specs.Growing.{meets, stepOf, outcomeOf};
 ghost use Rattle.growth.specs.Answers.{callOf, growSays, refusedWith, GrownSays};
 ghost use Rattle.growth.specs.Plans.{planned, plannedObjects, changeRefusal, PlanFor};
 
@@ -65,7 +65,7 @@ fn accepted(l: Layout, offset: u64, t: Table, changed: bool) -> Grown
 }
 
 // Does one of the first n object records of the rows have this target and number?
-fn stands(targets: &[u32], numbers: &[u64], n: usize, target: u32, number: u64) -> bool
+fn is_among(targets: &[u32], numbers: &[u64], n: usize, target: u32, number: u64) -> bool
     requires { ⌜ (n ≤ length (now targets)) × (n ≤ length (now numbers)) ⌝ }
     ensures { λ r. ⌜ r
         ≡ elem sameObject (objectOf target number) (take n (named (now (targets .entry)) (now (numbers .entry)))) ⌝ }
@@ -80,15 +80,15 @@ fn stands(targets: &[u32], numbers: &[u64], n: usize, target: u32, number: u64) 
     false
 }
 
-// Does one of the first m objects stand among the first n object records of the rows?
-fn any_stands(targets: &[u32], numbers: &[u64], n: usize, objects: [Object; 16], m: usize) -> bool
+// Is one of the first m objects among the first n object records of the rows?
+fn any_among(targets: &[u32], numbers: &[u64], n: usize, objects: [Object; 16], m: usize) -> bool
     requires { ⌜ (n ≤ length (now targets)) × (n ≤ length (now numbers)) × (m ≤ 16) ⌝ }
     ensures { λ r. ⌜ r ≡ meets (take m objects) (take n (named (now (targets .entry)) (now (numbers .entry)))) ⌝ }
 {
     let mut i: usize = 0;
     while i < m {
         let o = objects[i];
-        if stands(targets, numbers, n, o.target, o.number) {
+        if is_among(targets, numbers, n, o.target, o.number) {
             return true;
         }
         i += 1;
@@ -96,7 +96,7 @@ fn any_stands(targets: &[u32], numbers: &[u64], n: usize, objects: [Object; 16],
     false
 }
 
-// Does one of the first m objects stand in the layout?
+// Is one of the first m objects in the layout?
 fn meets_layout(l: Layout, objects: [Object; 16], m: usize) -> bool
     requires { ⌜ (l .count ≤ 16) × (m ≤ 16) ⌝ }
     ensures { λ r. ⌜ r ≡ meets (take m objects) (recordsIn (view l)) ⌝ }
@@ -104,7 +104,7 @@ fn meets_layout(l: Layout, objects: [Object; 16], m: usize) -> bool
     let mut targets = [0u32; 256];
     let mut numbers = [0u64; 256];
     let n = layout::distinct::put_all(l, 0, l.count, 0, &mut targets, &mut numbers);
-    any_stands(&targets, &numbers, n, objects, m)
+    any_among(&targets, &numbers, n, objects, m)
 }
 
 // The number of the refusal of a change, 17, 18 or 19, or 0.
@@ -127,13 +127,13 @@ fn change_refusal(l: Layout, p: Plan) -> u8
 }
 
 // What the plan of a change gives.
-fn settle_change(l: Layout, offset: u64, mark: u64, t: Table, p: Plan) -> Grown
+fn of_change(l: Layout, offset: u64, mark: u64, t: Table, p: Plan) -> Grown
     requires { ⌜ (valid l ≡ true)
         × (tableOk (tableOf t) ≡ true)
         × PlanFor l (callOf offset mark t) p
         × (p .lacks ≡ false)
         × (p .changes ≡ true) ⌝ }
-    ensures { λ r. ⌜ GrownSays t r (settling l (callOf offset mark t) (stepOf l (callOf offset mark t))) ⌝ }
+    ensures { λ r. ⌜ GrownSays t r (outcomeOf l (callOf offset mark t) (stepOf l (callOf offset mark t))) ⌝ }
 {
     let number = change_refusal(l, p);
     if number != 0 {
@@ -145,9 +145,9 @@ fn settle_change(l: Layout, offset: u64, mark: u64, t: Table, p: Plan) -> Grown
 }
 
 // What the plan of a step gives.
-pub fn settle(l: Layout, offset: u64, mark: u64, t: Table, p: Plan) -> Grown
+pub fn of_step(l: Layout, offset: u64, mark: u64, t: Table, p: Plan) -> Grown
     requires { ⌜ (valid l ≡ true) × (tableOk (tableOf t) ≡ true) × PlanFor l (callOf offset mark t) p ⌝ }
-    ensures { λ r. ⌜ GrownSays t r (settling l (callOf offset mark t) (stepOf l (callOf offset mark t))) ⌝ }
+    ensures { λ r. ⌜ GrownSays t r (outcomeOf l (callOf offset mark t) (stepOf l (callOf offset mark t))) ⌝ }
 {
     if p.lacks {
         return refused(16, l, t);
@@ -155,5 +155,5 @@ pub fn settle(l: Layout, offset: u64, mark: u64, t: Table, p: Plan) -> Grown
     if !p.changes {
         return accepted(l, offset, t, false);
     }
-    settle_change(l, offset, mark, t, p)
+    of_change(l, offset, mark, t, p)
 }

@@ -1,12 +1,12 @@
--- `growth::settling::has_home` meets its contract: a byte has a home exactly if a lookup finds one.
+-- `growth::outcomes::has_home` meets its contract: a byte has a home exactly if a lookup finds one.
 use mathlib.Core.Path.{sym, ap, _∙_}
 use borrow.Author.Needs.{needs}
 use Rattle.layout.specs.Facts.{Valid}
 use Rattle.layout.specs.FactLaws.{valid-facts}
 use Rattle.mapping.specs.Lookup.{lookupSays, homeSays}
 use Rattle.growth.specs.AnswerLaws.{found-home, refused-home}
-use Rattle.growth.proofs.settling.has_home.Statement.{statement}
-use Rattle.growth.proofs.settling.has_home.Tie as tie
+use Rattle.growth.proofs.outcomes.has_home.Statement.{statement}
+use Rattle.growth.proofs.outcomes.has_home.Tie as tie
 
 facts : (c : tie.Start) → Valid (c .args .l)
 facts c = valid-facts (c .args .l) (c .pre)

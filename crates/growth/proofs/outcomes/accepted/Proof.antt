@@ -1,9 +1,9 @@
--- `growth::settling::accepted` meets its contract.
+-- `growth::outcomes::accepted` meets its contract.
 use mathlib.Core.Path.{refl}
 use borrow.Author.Needs.{needs}
 use Rattle.growth.specs.Answers.{growSays}
-use Rattle.growth.proofs.settling.accepted.Statement.{statement}
-use Rattle.growth.proofs.settling.accepted.Tie as tie
+use Rattle.growth.proofs.outcomes.accepted.Statement.{statement}
+use Rattle.growth.proofs.outcomes.accepted.Tie as tie
 
 returns : tie.Need-returns
 unfolding growSays

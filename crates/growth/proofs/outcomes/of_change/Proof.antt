@@ -1,4 +1,4 @@
--- `growth::settling::settle_change` meets its contract: the change is refused by its number, or it gives the layout by the
+-- `growth::outcomes::of_change` meets its contract: the change is refused by its number, or it gives the layout by the
 -- plan and the raised table.
 use Prim.Native.Nat.{ℕ}
 use mathlib.Core.Path.{_≡_, sym, ap, _∙_, subst}
@@ -13,14 +13,14 @@ use Rattle.mapping.specs.Answers.{Answer, gives}
 use Rattle.mapping.specs.Homes.{hasHome}
 use Rattle.free_table.specs.ChoosingLaws.{table-count}
 use Rattle.growth_rules.specs.Steps.{Call, changes}
-use Rattle.growth_rules.specs.Growing.{Effect, Outcome, stepOf, settling}
+use Rattle.growth_rules.specs.Growing.{Effect, Outcome, stepOf, outcomeOf}
 use Rattle.growth_rules.specs.ValidityLaws.{changed-valid}
 use Rattle.growth.specs.Answers.{callOf, GrownSays}
 use Rattle.growth.specs.Plans.{planned, plannedObjects}
 use Rattle.growth.specs.SpliceLaws.{planned-length}
-use Rattle.growth.specs.SettlingLaws.{plan-changes, change-refused, Accepted, change-accepted}
-use Rattle.growth.proofs.settling.settle_change.Statement.{statement}
-use Rattle.growth.proofs.settling.settle_change.Tie as tie
+use Rattle.growth.specs.OutcomeLaws.{plan-changes, change-refused, Accepted, change-accepted}
+use Rattle.growth.proofs.outcomes.of_change.Statement.{statement}
+use Rattle.growth.proofs.outcomes.of_change.Tie as tie
 
 -- The call.
 abbrev call : tie.Start → Call
@@ -52,7 +52,7 @@ returns c =
     let s = c .before .before .before in
     let a = s .args in
     let n = c .before .before .change-refusal in
-    let e = ap (settling (a .l) (call s)) (step s)
+    let e = ap (outcomeOf (a .l) (call s)) (step s)
     ∙ change-refused (a .l) (call s) (planned (a .p) (view (a .l))) (plannedObjects (a .p)) (n .result) (n .ensures) (c .before .if1 .taken) in
     subst (λ (o : Outcome). GrownSays (a .t) (c .refused .result) o) (sym e) (c .refused .ensures)
 
@@ -85,7 +85,7 @@ returns-2 c =
     let a = s .args in
     let k = accepted (c .before .before .before) in
     let next = c .before .before .changed in
-    let e = ap (settling (a .l) (call s)) (step s) ∙ k .gives in
+    let e = ap (outcomeOf (a .l) (call s)) (step s) ∙ k .gives in
     subst (λ (o : Outcome). GrownSays (a .t) (c .accepted .result) o) (sym e)
     record {
       answer = c .accepted .ensures .0 ∙ ap (effect (a .offset)) (next .ensures);
@@ -93,7 +93,7 @@ returns-2 c =
       table = c .accepted .ensures .2 ∙ c .before .raise .ensures ∙ rw (s .pre .2 .counted);
     }
 
-pub settle-change-spec : {M : Type 1} → statement M
-settle-change-spec =
-    tie.close (tie.spec change-refusal-requires (λ c κs. search needs) returns changed-requires raise-requires accepted-requires
-    returns-2)
+pub of-change-spec : {M : Type 1} → statement M
+of-change-spec =
+    tie.close (tie.spec change-refusal-requires (λ c κs. search needs) returns changed-requires raise-requires
+    accepted-requires returns-2)

@@ -19,7 +19,7 @@ use Rattle.layout.specs.Facts.{IsInit, IsExtension, isInit, isExtension, Fields
 use Rattle.layout.specs.FactLaws.{kind-ordered, startsExtension, follower-empty}
 use Rattle.mapping.specs.Homes.{initAt, readingOf}
 use Rattle.growth_rules.specs.Parts.{withExtent, leaving}
-use Rattle.growth_rules.specs.Keeping.{Kept, Renewed}
+use Rattle.growth_rules.specs.Replacing.{Replaced, Renewed}
 
 -- A byte lies in an init component exactly if the component is init and its extent holds the byte.
 init-in : (c : Component) (b : ℕ) → initAt b c ≡ true → (c .init ≡ true) × (c .begin ≤ b) × (b < c .end)
@@ -35,7 +35,7 @@ in-init c b i h k = true-both i (true-both (le-leb (c .begin) b h) (lt-ltb b (c 
 past-init : (c : Component) (b : ℕ) → c .end ≤ b → initAt b c ≡ false
 past-init c b h = bool-cases (initAt b c) (λ e. absurd (omega (arith, init-in c b e))) (λ e. e)
 
--- A list may stand behind a component that is no extension if it may stand elsewhere.
+-- A list may be after a component that is no extension if it may be elsewhere.
 pub linked-may : (at : ℕ) (may : Bool) (t : List Component) → Linked false at may t → Linked false at true t
 linked-may at may [] k = tt
 linked-may at may (c ∷ t) k = (k .0, (λ e. refl), k .2, k .3)
@@ -53,9 +53,9 @@ follower-before c [] h s = absurd (omega arith)
 follower-before c (d ∷ t) h s = s
 
 module _ {A : Type 0} (read : Component → ℕ → A) (b : ℕ) (a : A) where
-  -- The reading behind a component in which the byte does not lie,
-  reading-behind : (c : Component) (t : List Component) → initAt b c ≡ false → readingOf read b (c ∷ t) ≡ readingOf read b t
-  reading-behind c t e = rw e
+  -- The reading after a component in which the byte does not lie,
+  reading-after : (c : Component) (t : List Component) → initAt b c ≡ false → readingOf read b (c ∷ t) ≡ readingOf read b t
+  reading-after c t e = rw e
 
   -- and by one in which it does.
   reading-here : (c : Component) (t : List Component) → initAt b c ≡ true → readingOf read b (c ∷ t) ≡ some (read c b)
@@ -70,8 +70,8 @@ module _ {A : Type 0} (read : Component → ℕ → A) (b : ℕ) (a : A) where
       (λ q. omega (arith, kind-ordered (f .1), reading-above (c .end) (not (c .extension)) t (f .2) (k .3) (rw q at e)))
 
 -- Components that stay as they are.
-pub kept-same : (at : ℕ) (may : Bool) (t : List Component) → Fields t → Linked false at may t → Kept at at true t t [] []
-kept-same at may t f k = record {
+pub replaced-same : (at : ℕ) (may : Bool) (t : List Component) → Fields t → Linked false at may t → Replaced at at true t t [] []
+replaced-same at may t f k = record {
   fields = f;
   linked = linked-may at may t k;
   readings = λ read n b a e. e;
@@ -81,9 +81,9 @@ kept-same at may t f k = record {
 }
 
 -- An id that may be added need not be.
-pub kept-new : {from to : ℕ} {may : Bool} {t t' : List Component} {os : List Object} (new : ℕ)
-    → Kept from to may t t' os [] → Kept from to may t t' os (new ∷ [])
-kept-new new k = record {
+pub replaced-new : {from to : ℕ} {may : Bool} {t t' : List Component} {os : List Object} (new : ℕ)
+    → Replaced from to may t t' os [] → Replaced from to may t t' os (new ∷ [])
+replaced-new new k = record {
   fields = k .fields;
   linked = k .linked;
   readings = k .readings;
@@ -93,29 +93,29 @@ kept-new new k = record {
 }
 
 -- A component before those that are changed. If it is not init, an extension follows afterwards exactly if one did.
-pub kept-behind : {at : ℕ} {may : Bool} {t' : List Component} {os : List Object} {new : List ℕ}
+pub replaced-after : {at : ℕ} {may : Bool} {t' : List Component} {os : List Object} {new : List ℕ}
     (c : Component) (t : List Component) → Fields (c ∷ t) → Linked false at may (c ∷ t)
     → 1 ≤ length t' → (c .init ≡ false → startsExtension t' ≡ startsExtension t)
-    → Kept (c .end) (c .end) (not (c .extension)) t t' os new → Kept at at may (c ∷ t) (c ∷ t') os new
-kept-behind {t' = t'} c t f k filled first kept = record {
-  fields = (f .0, f .1, kept .fields);
+    → Replaced (c .end) (c .end) (not (c .extension)) t t' os new → Replaced at at may (c ∷ t) (c ∷ t') os new
+replaced-after {t' = t'} c t f k filled first replaced = record {
+  fields = (f .0, f .1, replaced .fields);
   linked = (
     k .0,
     k .1,
     follower-before c t' filled (λ i. follower-empty c t (k .2) i ∙ sym (first i)),
-    kept .linked,
+    replaced .linked,
   );
   readings = λ read n b a e.
       bool-cases (initAt b c) (λ q. reading-here read b a c t' q ∙ sym (reading-here read b a c t q) ∙ e)
-      (λ q. reading-behind read b a c t' q ∙ kept .readings read n b a (sym (reading-behind read b a c t q) ∙ e));
-  ends = kept .ends;
+      (λ q. reading-after read b a c t' q ∙ replaced .readings read n b a (sym (reading-after read b a c t q) ∙ e));
+  ends = replaced .ends;
   objects = λ o. omega (
     arith,
-    kept .objects o,
+    replaced .objects o,
     count-append sameObject o (recordsOf c) (recordsIn t),
     count-append sameObject o (recordsOf c) (recordsIn t'),
   );
-  ids = λ i. omega (arith, kept .ids i);
+  ids = λ i. omega (arith, replaced .ids i);
 }
 
 -- An extension has no object records.
@@ -123,87 +123,87 @@ no-records : {x : Component} → IsExtension x → (o : Object) → count sameOb
 no-records {x} k o = rw (k .init)
 
 -- An extension before those that are changed goes.
-pub kept-gone : {from to : ℕ} {may : Bool} {t t' : List Component} {os : List Object} {new : List ℕ}
-    (x : Component) → IsExtension x → Kept (x .end) to may t t' os new → Kept from to may (x ∷ t) t' os new
-kept-gone {t = t} x is kept = record {
-  fields = kept .fields;
-  linked = kept .linked;
+pub replaced-gone : {from to : ℕ} {may : Bool} {t t' : List Component} {os : List Object} {new : List ℕ}
+    (x : Component) → IsExtension x → Replaced (x .end) to may t t' os new → Replaced from to may (x ∷ t) t' os new
+replaced-gone {t = t} x is replaced = record {
+  fields = replaced .fields;
+  linked = replaced .linked;
   readings = λ read n b a e.
-      kept .readings read n b a (sym (reading-behind read b a x t (not-init b)) ∙ e);
-  ends = kept .ends;
-  objects = λ o. omega (arith, kept .objects o, no-records is o, count-append sameObject o (recordsOf x) (recordsIn t));
-  ids = λ i. omega (arith, kept .ids i);
+      replaced .readings read n b a (sym (reading-after read b a x t (not-init b)) ∙ e);
+  ends = replaced .ends;
+  objects = λ o. omega (arith, replaced .objects o, no-records is o, count-append sameObject o (recordsOf x) (recordsIn t));
+  ids = λ i. omega (arith, replaced .ids i);
 }
   where
     -- No byte lies in an init component by an extension.
     not-init : (b : ℕ) → initAt b x ≡ false
     not-init b = bool-cases (initAt b x) (λ e. clash (init-in x b e .0) (is .init)) (λ e. e)
 
--- A component is renewed, and those behind it are changed. If it was init, its new extent holds the old one.
-pub kept-renewed : {from to : ℕ} {may : Bool} {t' : List Component} {os : List Object}
+-- A component is renewed, and those after it are changed. If it was init, its new extent holds the old one.
+pub replaced-renewed : {from to : ℕ} {may : Bool} {t' : List Component} {os : List Object}
     (c c' : Component) (t : List Component) → Fields (c ∷ t) → Renewed c c' os → c' .begin ≡ to
     → (c .init ≡ true → (to ≤ c .begin) × (c .end ≤ c' .end))
-    → Kept (c .end) (c' .end) true t t' [] [] → Kept from to may (c ∷ t) (c' ∷ t') os []
-kept-renewed {to = to} {t' = t'} {os = os} c c' t f r at wider kept = record {
-  fields = (omega (arith, f .0, r .id), isInit (r .kind), kept .fields);
+    → Replaced (c .end) (c' .end) true t t' [] [] → Replaced from to may (c ∷ t) (c' ∷ t') os []
+replaced-renewed {to = to} {t' = t'} {os = os} c c' t f r at wider replaced = record {
+  fields = (omega (arith, f .0, r .id), isInit (r .kind), replaced .fields);
   linked = (
     at,
     (λ e. clash e (r .kind .extension)),
     follower-held c' t' (r .kind .extent) (λ i. clash (r .kind .init) i),
-    rw (r .kind .extension) (kept .linked),
+    rw (r .kind .extension) (replaced .linked),
   );
   readings = λ read n b a e.
       bool-cases (initAt b c)
       (λ q. let p = init-in c b q in
       let within = in-init c' b (r .kind .init) (omega (arith, p, at, wider (p .0))) (omega (arith, p, wider (p .0))) in
       reading-here read b a c' t' within ∙ ap some (r .readings read n (p .0) b) ∙ sym (reading-here read b a c t q) ∙ e)
-      (λ q. let there = kept .readings read n b a (sym (reading-behind read b a c t q) ∙ e) in
-      let above = reading-above read b a (c' .end) true t' (kept .fields) (kept .linked) there in
-      reading-behind read b a c' t' (past-init c' b above) ∙ there);
-  ends = kept .ends;
+      (λ q. let there = replaced .readings read n b a (sym (reading-after read b a c t q) ∙ e) in
+      let above = reading-above read b a (c' .end) true t' (replaced .fields) (replaced .linked) there in
+      reading-after read b a c' t' (past-init c' b above) ∙ there);
+  ends = replaced .ends;
   objects = λ o. omega (
     arith,
     r .objects o,
-    kept .objects o,
+    replaced .objects o,
     count-append sameObject o (recordsOf c) (recordsIn t),
     count-append sameObject o (recordsOf c') (recordsIn t'),
   );
-  ids = λ i. rw (r .id) (omega (arith, kept .ids i));
+  ids = λ i. rw (r .id) (omega (arith, replaced .ids i));
 }
 
 -- An init component is added before those that are changed.
-pub kept-added : {from to : ℕ} {may : Bool} {t t' : List Component} {os : List Object}
+pub replaced-added : {from to : ℕ} {may : Bool} {t t' : List Component} {os : List Object}
     (c : Component) → IsInit c → recordsOf c ≡ os → 1 ≤ c .id → c .begin ≡ to
-    → Kept from (c .end) true t t' [] [] → Kept from to may t (c ∷ t') os (c .id ∷ [])
-kept-added {t' = t'} c is same id at kept = record {
-  fields = (id, isInit is, kept .fields);
+    → Replaced from (c .end) true t t' [] [] → Replaced from to may t (c ∷ t') os (c .id ∷ [])
+replaced-added {t' = t'} c is same id at replaced = record {
+  fields = (id, isInit is, replaced .fields);
   linked = (
     at,
     (λ e. clash e (is .extension)),
     follower-held c t' (is .extent) (λ i. clash (is .init) i),
-    rw (is .extension) (kept .linked),
+    rw (is .extension) (replaced .linked),
   );
   readings = λ read n b a e.
-      let there = kept .readings read n b a e in
-      let above = reading-above read b a (c .end) true t' (kept .fields) (kept .linked) there in
-      reading-behind read b a c t' (past-init c b above) ∙ there;
-  ends = kept .ends;
+      let there = replaced .readings read n b a e in
+      let above = reading-above read b a (c .end) true t' (replaced .fields) (replaced .linked) there in
+      reading-after read b a c t' (past-init c b above) ∙ there;
+  ends = replaced .ends;
   objects = λ o. omega (
     arith,
-    kept .objects o,
+    replaced .objects o,
     count-append sameObject o (recordsOf c) (recordsIn t'),
     ap (λ (os : List Object). count sameObject o os) same,
   );
-  ids = λ i. omega (arith, kept .ids i);
+  ids = λ i. omega (arith, replaced .ids i);
 }
 
--- An extension whose first bytes are gone, or that goes where it is empty.
-pub kept-leaving : (from at : ℕ) (may : Bool) (x : Component) (t : List Component) → Fields (x ∷ t)
-    → Linked false from may (x ∷ t) → IsExtension x → at ≤ x .end → Kept from at true (x ∷ t) (leaving at x t) [] []
+-- An extension whose first bytes are gone, or that goes if it is empty.
+pub replaced-leaving : (from at : ℕ) (may : Bool) (x : Component) (t : List Component) → Fields (x ∷ t)
+    → Linked false from may (x ∷ t) → IsExtension x → at ≤ x .end → Replaced from at true (x ∷ t) (leaving at x t) [] []
 unfolding leaving
-kept-leaving from at may x t f k is h =
-    cond-elim (λ (u : List Component). Kept from at true (x ∷ t) u [] []) (eqb at (x .end))
-    (λ e. kept-gone x is (rw (eqb-true at (x .end) e) (kept-same (x .end) (not (x .extension)) t (f .2) (k .3))))
+replaced-leaving from at may x t f k is h =
+    cond-elim (λ (u : List Component). Replaced from at true (x ∷ t) u [] []) (eqb at (x .end))
+    (λ e. replaced-gone x is (rw (eqb-true at (x .end) e) (replaced-same (x .end) (not (x .extension)) t (f .2) (k .3))))
     (λ e. left (omega (arith, eqb-false at (x .end) e)))
   where
     -- No extension follows an extension.
@@ -211,13 +211,13 @@ kept-leaving from at may x t f k is h =
     plain = sym (follower-empty x t (k .2) (is .init)) ∙ ne-eqb (x .begin) (x .end) (λ e. omega (arith, is .extent))
 
     -- Something is left of it.
-    left : at < x .end → Kept from at true (x ∷ t) (withExtent at (x .end) x ∷ t) [] []
+    left : at < x .end → Replaced from at true (x ∷ t) (withExtent at (x .end) x ∷ t) [] []
     left h = record {
       fields = (f .0, isExtension kind, f .2);
       linked = (refl, (λ e. refl), follower-held (withExtent at (x .end) x) t h (λ i. plain), k .3);
       readings = λ read n b a e.
-          reading-behind read b a (withExtent at (x .end) x) t (rw (is .init))
-          ∙ sym (reading-behind read b a x t (rw (is .init)))
+          reading-after read b a (withExtent at (x .end) x) t (rw (is .init))
+          ∙ sym (reading-after read b a x t (rw (is .init)))
           ∙ e;
       ends = refl;
       objects = λ o. omega (

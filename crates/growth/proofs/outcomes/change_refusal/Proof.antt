@@ -1,6 +1,6 @@
--- `growth::settling::change_refusal` meets its contract: the refusals are asked in their order.
+-- `growth::outcomes::change_refusal` meets its contract: the refusals are asked in their order.
 use mathlib.Core.Path.{_≡_, sym, _∙_}
-use mathlib.Core.Bool.{true, false}
+use mathlib.Core.Bool.{Bool, true, false, cond}
 use native.Mathlib.Omega.{arith}
 use lib.Dec.{ltb, eqb}
 use lib.ListN.{length}
@@ -12,8 +12,8 @@ use Rattle.layout.specs.Records.{recordsIn, view}
 use Rattle.growth_rules.specs.Growing.{meets}
 use Rattle.growth.specs.Plans.{planned, plannedObjects, changeRefusal}
 use Rattle.growth.specs.SpliceLaws.{planned-length}
-use Rattle.growth.proofs.settling.change_refusal.Statement.{statement}
-use Rattle.growth.proofs.settling.change_refusal.Tie as tie
+use Rattle.growth.proofs.outcomes.change_refusal.Statement.{statement}
+use Rattle.growth.proofs.outcomes.change_refusal.Tie as tie
 
 -- `planned_count` gives the number of components by the plan.
 counted : (c : tie.After-planned-count) → c .planned-count .result ≡ length (planned (c .before .args .p) (view (c .before .args .l)))
@@ -31,7 +31,7 @@ few c =
     let a = c .before .before .args in
     le-ltb 16 (length (planned (a .p) (view (a .l)))) (omega (arith, counted (c .before), c .if1 .left))
 
--- Whether a chosen object stands in the layout.
+-- Whether a chosen object is in the layout.
 met : (c : tie.After-meets-layout) → let a = c .before .before .before .before .before .args in
     meets (plannedObjects (a .p)) (recordsIn (view (a .l))) ≡ c .meets-layout .result
 met c = sym (c .meets-layout .ensures)
@@ -46,21 +46,17 @@ returns-2 : tie.Need-returns-2
 unfolding changeRefusal
 returns-2 c = rw (few (c .before .before .before .before), met (c .before) ∙ c .if2 .taken)
 
-returns-3 : tie.Need-returns-3
+-- If neither 17 nor 18 applies, the number is 19 or 0, by the test of the generation.
+last : (c : tie.Else2) (t : Bool) → let a = c .before .before .before .before .before .before .args in
+    t ≡ eqb (a .l .generation) 4294967295 → cond t 19 0 ≡ changeRefusal (a .l) (planned (a .p) (view (a .l))) (plannedObjects (a .p))
 unfolding changeRefusal
-returns-3 c =
-    let p = c .before .before in
-    let a = p .before .before .before .before .before .before .args in
-    let last : eqb (a .l .generation) 4294967295 ≡ true = eq-eqb (a .l .generation) 4294967295 (c .if3 .taken) in
-    rw (few (p .before .before .before .before), met (p .before) ∙ p .if2 .left, last)
+last c t e = rw (few (c .before .before .before .before), met (c .before) ∙ c .if2 .left, ← e)
+
+returns-3 : tie.Need-returns-3
+returns-3 c = last (c .before .before) true (sym (eq-eqb _ 4294967295 (c .if3 .taken)))
 
 returns-4 : tie.Need-returns-4
-unfolding changeRefusal
-returns-4 c =
-    let p = c .before .before in
-    let a = p .before .before .before .before .before .before .args in
-    let below : eqb (a .l .generation) 4294967295 ≡ false = ne-eqb (a .l .generation) 4294967295 (c .if3 .left) in
-    rw (few (p .before .before .before .before), met (p .before) ∙ p .if2 .left, below)
+returns-4 c = last (c .before .before) false (sym (ne-eqb _ 4294967295 (c .if3 .left)))
 
 pub change-refusal-spec : {M : Type 1} → statement M
 change-refusal-spec =

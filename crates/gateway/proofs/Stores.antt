@@ -1,4 +1,4 @@
--- What a stored answer is, for the functions that store it: by its two cases, the number and what stands in the lent
+-- What a stored answer is, for the functions that store it: by its two cases, the number and what is in the lent
 -- place.
 use Prim.Native.Nat.{ℕ, zero, suc}
 use mathlib.Core.Path.{_≡_, refl, sym}

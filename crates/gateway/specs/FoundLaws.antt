@@ -1,6 +1,6 @@
--- What a call may rely on that reads the host's pages in place. Each entry point starts with this reading: `Finds` is what it
--- ensures. If it refuses, `found-refused` is all that is left to say of the call; if it does not, the call goes on with the
--- components at the places found, or with the layout that is made of them.
+-- What a call may rely on that reads the host's pages in place. Each entry point starts with this reading; `Finds` is
+-- what it ensures. If it refuses, `found-refused` is all that is left to say of the call. If it does not, the call goes
+-- on with the components at the places found, or with the layout that is made of them.
 use Prim.Native.Nat.{ℕ}
 use mathlib.Core.Path.{_≡_, sym, ap, _∙_}
 use mathlib.Core.List.{List}
@@ -13,7 +13,7 @@ use Rattle.layout.specs.Records.{view, packed}
 use Rattle.layout.specs.RecordLaws.{view-pack}
 use Rattle.layout.specs.Rules.{valid}
 use Rattle.page.specs.Content.{componentAt}
-use Rattle.in_place.specs.Places.{componentsAt}
+use Rattle.in_place.specs.Places.{componentsAt, ValidAt}
 use Rattle.placed_run.specs.declared.Found.{Found}
 use Rattle.placed_run.specs.Found.{Finds}
 use Rattle.mapping.specs.Answers.{Answer, answer}
@@ -30,12 +30,19 @@ module _ {pages : List ℕ} {r : Found} {places : List ℕ} (f : Finds pages r p
   found-refused h =
       let number : (own : ℕ) → r .refusal ≡ readingFirst pages own =
       λ own. f .refusal ∙ reading-number pages own (λ z. h (f .refusal ∙ z)) in
-      record { number = number; lent = λ own new lent. lent-stays (readingFirst pages own) new lent (λ z. h (number own ∙ z)) }
+      record {
+        number = number;
+        lent = λ own new lent. lent-stays (readingFirst pages own) new lent (λ z. h (number own ∙ z));
+      }
 
   module _ (z : r .refusal ≡ 0) where
     -- The reading gives a layout.
     pub found-read : hostReading pages .refusal ≡ 0
     found-read = sym (f .refusal) ∙ z
+
+    -- The places found may be handed on: the components at them are those of a valid layout.
+    pub found-places : ValidAt pages (r .count) places × (length places ≡ 16)
+    found-places = (f .valid-at z, f .room)
 
     -- The number of the call is its own.
     pub found-own : (own : ℕ) → readingFirst pages own ≡ own
@@ -58,8 +65,8 @@ module _ {pages : List ℕ} {r : Found} {places : List ℕ} (f : Finds pages r p
         → l ≡ hostLayout pages
     found-layout l e = e ∙ sym (f .layout z)
 
-    -- What a call answers of the components at the places found, by its own number and what it gives, is what the call on
-    -- pages answers.
+    -- What a call answers of the components at the places found, by its own number and what it gives, is what the call
+    -- on pages answers.
     pub found-answer : {A : Type 0} (own : List Component → ℕ) (given : List Component → A) {x : Answer A}
         → (let cs = componentsAt pages (take (r .count) places) in x ≡ answer (own cs) (given cs))
         → x ≡ answer (readingFirst pages (own (hostComponents pages))) (given (hostComponents pages))

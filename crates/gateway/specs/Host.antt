@@ -16,8 +16,8 @@ use Rattle.mapping.specs.Back.{backRefusal, byteOf}
 use Rattle.mapping.specs.Cutting.{cutRefusal, cutPieces, cutCount, allNumbers}
 use Rattle.paging.specs.Paging.{writtenPage, writeRefusal}
 
--- The reading of the bytes of the host's pages: "the layout as pages back to back, each ending after the records its head
--- counts".
+-- The reading of the bytes of the host's pages: "the layout as pages back to back, each ending after the records its
+-- head counts".
 abbrev pub hostReading : List ℕ → Reading
 hostReading pages = readRun hostCut pages
 

@@ -17,7 +17,7 @@ use Rattle.gateway.specs.Host.{hostLayout, readingFirst, lentAfter}
 abbrev pub cutRecord : TargetRecord
 cutRecord = record { target = 65535; free = 0; next = 0 }
 
--- The records of a table that is lent as words, three words a record: its target, its free bytes, its next object number. Where
+-- The records of a table that is lent as words, three words a record: its target, its free bytes, its next object number. If
 -- the number of words is no multiple of 3, the last record is a cut one.
 abbrev pub wordTable : List ℕ → List TargetRecord
 wordTable [] = []
@@ -33,7 +33,7 @@ withNextWords (t ∷ []) (r ∷ rs) = t ∷ []
 withNextWords (t ∷ f ∷ []) (r ∷ rs) = t ∷ f ∷ []
 withNextWords (t ∷ f ∷ n ∷ ws) (r ∷ rs) = t ∷ f ∷ r .next ∷ withNextWords ws rs
 
--- What growth gives of the layout that stands in the pages, with the table that stands in the words.
+-- What growth gives of the layout that is in the pages, with the table that is in the words.
 abbrev pub hostGrown : List ℕ → ℕ → ℕ → List ℕ → Outcome
 hostGrown pages offset mark words =
     growOf (hostLayout pages) (record { offset = offset; mark = mark; table = wordTable words })
@@ -42,7 +42,7 @@ hostGrown pages offset mark words =
 abbrev pub pagesOf : Layout → List ℕ
 pagesOf l = backToBack (writtenPages l)
 
--- 20 where the pages of a layout do not fit into so many bytes, else 0.
+-- 20 if the pages of a layout do not fit into so many bytes, else 0.
 abbrev pub roomNumber : Layout → ℕ → ℕ
 roomNumber l room = cond (leb (length (pagesOf l)) room) 0 20
 
@@ -58,7 +58,7 @@ growNumber pages offset mark words room =
     let o = hostGrown pages offset mark words in
     readingFirst pages (laterNumber (o .answer) (roomNumber (o .layout) room))
 
--- 1 where the answer says that the offset now has a home, else 0.
+-- 1 if the answer says that the offset now has a home, else 0.
 abbrev pub homeNumber : Answer Effect → ℕ
 homeNumber (gives e) = cond (e .home) 1 0
 homeNumber (refuses n) = 0
@@ -67,7 +67,7 @@ homeNumber (refuses n) = 0
 unfoldable pub tableAfter : ℕ → List ℕ → Outcome → List ℕ
 tableAfter n words o = lentAfter n (withNextWords words (o .table)) words
 
--- The bytes lent for the new pages afterwards: the pages of the layout that growth gives stand in the first of them.
+-- The bytes lent for the new pages afterwards: the pages of the layout that growth gives are in the first of them.
 unfoldable pub grownAfter : ℕ → List ℕ → Outcome → List ℕ
 grownAfter n bytes o = lentAfter n (sets bytes 0 (pagesOf (o .layout))) bytes
 

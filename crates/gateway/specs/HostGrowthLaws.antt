@@ -44,7 +44,7 @@ grow-in : (l : Layout) (k : Call) → valid l ≡ true → growOf l k ≡ growIn
 unfolding growOf
 grow-in l k v = rw v
 
--- The table behind a call has as many records as the table before it.
+-- The table after a call has as many records as the table before it.
 call-length : (l : Layout) (k : Call) → length (growOf l k .table) ≡ length (k .table)
 call-length l k =
     ⊎-elim (λ e. ap length e)
@@ -74,7 +74,7 @@ module _ (l : Layout) (offset mark : ℕ) (ws : List ℕ) (v : valid l ≡ true)
   abbrev asked : Call
   asked = record { offset = offset; mark = mark; table = wordTable ws }
 
-  -- Where that table is bad, so is the one that was loaded;
+  -- If that table is bad, so is the one that was loaded;
   bad-says : tableOk (wordTable ws) ≡ false → StepSays ws g (growOf l asked)
   bad-says e =
       let seen = bad-table l (callOf offset mark (loadedWords ws)) (loaded-ok ws ∙ e) in
@@ -87,7 +87,7 @@ module _ (l : Layout) (offset mark : ℕ) (ws : List ℕ) (v : valid l ≡ true)
         table = λ d q. absurd (gives-or-refuses d n (sym q));
       }
 
-  -- where it is good, it is the one that was loaded.
+  -- if it is good, it is the one that was loaded.
   good-says : tableOk (wordTable ws) ≡ true → StepSays ws g (growOf l asked)
   good-says e =
       let f = good-words ws e in
@@ -132,7 +132,7 @@ module _ (s : List ℕ) (offset mark : ℕ) (ws bs ns : List ℕ) where
       (r ≡ number) × (words ≡ tableAfter number ws out) × (bytes ≡ grownAfter number bs out)
       × (numbers ≡ answerAfter number ns out)
 
-  -- Where the call is refused, all that is lent stays.
+  -- If the call is refused, all that is lent stays.
   refused-by : (n : ℕ) → number ≡ n → 0 < n → Stated n ws bs ns
   unfolding tableAfter grownAfter answerAfter lentAfter
   refused-by zero e h = absurd (omega arith)
@@ -149,7 +149,7 @@ module _ (s : List ℕ) (offset mark : ℕ) (ws bs ns : List ℕ) where
     growth-refused n e h =
         refused-by n (number-read ∙ later-refused (out .answer) n (roomNumber (out .layout) (length bs)) e h) h
 
-    -- where growth has no number, it is accepted;
+    -- if growth has no number, it is accepted;
     accepted-by : (a : Answer Effect) → out .answer ≡ a → laterNumber a 0 ≡ 0 → (d : Effect) × (out .answer ≡ gives d)
     accepted-by (gives d) e z = (d, e)
     accepted-by (refuses n) e z =

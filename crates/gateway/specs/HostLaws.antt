@@ -1,5 +1,5 @@
--- Laws of the host's calls: a layout that was read is valid; what a call returns and leaves in lent memory by the reading; and
--- that the calls give what the library's calls give of the layout that was read.
+-- Laws of the host's calls: a layout that was read is valid; what a call returns and leaves in lent memory by the
+-- reading; and that the calls give what the library's calls give of the layout that was read.
 use Prim.Native.Nat.{ℕ, zero, suc}
 use mathlib.Core.Path.{_≡_, refl, sym}
 use mathlib.Core.List.{List}

@@ -22,7 +22,7 @@ use Rattle.growth.specs.declared.Grown.{Grown}
 use Rattle.growth.specs.Answers.{growSays}
 use Rattle.gateway.specs.HostGrowth.{cutRecord, wordTable}
 
--- A record as a table in memory has it. Targets above 65,534 are equally bad, and stand there as 65,535.
+-- A record as a table in memory has it. Targets above 65,534 are equally bad, and are there as 65,535.
 abbrev pub heldRecord : TargetRecord → TargetRecord
 heldRecord r = record { target = min 65535 (r .target); free = r .free; next = r .next }
 
@@ -46,7 +46,7 @@ abbrev pub writtenLength : PageOut → ℕ
 writtenLength (Written n) = n
 writtenLength (Refused n) = 0
 
--- Page k of a layout, or no bytes where it has no such page.
+-- Page k of a layout, or no bytes if it has no such page.
 unfoldable pub pageIf : Layout → ℕ → List ℕ
 pageIf l k = cond (isSome (fromPage k (view l))) (writtenPage l k) []
 
@@ -54,8 +54,8 @@ pageIf l k = cond (isSome (fromPage k (view l))) (writtenPage l k) []
 unfoldable pub pagesFrom : Layout → ℕ → List ℕ
 pagesFrom l k = backToBack (writtenFrom (16 - k) k l)
 
--- What growth gave of a table that was loaded from words is this outcome; where it was accepted, its table has the records of the
--- outcome, and each stands in three of the words.
+-- What growth gave of a table that was loaded from words is this outcome; if it was accepted, its table has the records of the
+-- outcome, and each is in three of the words.
 pub record StepSays (ws : List ℕ) (r : Grown) (o : Outcome) : Type 0 where
   pub answer : growSays (r .out) ≡ o .answer
   pub layout : r .layout ≡ o .layout

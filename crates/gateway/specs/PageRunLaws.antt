@@ -1,4 +1,4 @@
--- Laws of the pages of a layout, one behind the other: those from page k on are page k and those from page k + 1 on.
+-- Laws of the pages of a layout, one after the other: those from page k on are page k and those from page k + 1 on.
 use Prim.Native.Nat.{ℕ, suc, _+_, _-_, _≤_, _<_}
 use mathlib.Core.Path.{_≡_, refl, sym, _∙_}
 use mathlib.Core.List.{List, [], _++_, append-nil, append-assoc}
@@ -38,7 +38,7 @@ module _ (l : Layout) (k : ℕ) where
   turns : k < 16 → 16 - k ≡ suc (16 - suc k)
   turns h = omega arith
 
-  -- Where page k has no bytes, there is no such page, and none behind it;
+  -- If page k has no bytes, there is no such page, and none after it;
   pub pages-none : k < 16 → length (pageIf l k) ≡ 0 → pagesFrom l k ≡ []
   unfolding pageIf pagesFrom
   pages-none h z =
@@ -46,7 +46,7 @@ module _ (l : Layout) (k : ℕ) where
       (λ e. let y : length (writtenPage l k) ≡ 0 = rw e at z in absurd (omega (arith, length-written l k)))
       (λ e. rw (turns h, e))
 
-  -- where it has some, it is followed by those from page k + 1 on.
+  -- if it has some, it is followed by those from page k + 1 on.
   pub pages-next : k < 16 → 0 < length (pageIf l k) → pagesFrom l k ≡ pageIf l k ++ pagesFrom l (k + 1)
   unfolding pageIf pagesFrom
   pages-next h z =
@@ -54,7 +54,7 @@ module _ (l : Layout) (k : ℕ) where
       (λ e. rw (turns h, e, add-one k))
       (λ e. let y : 0 < 0 = rw e at z in absurd (omega arith))
 
-  -- A call that writes page k into so many bytes that there is room for it answers with its length, 0 where there is none,
+  -- A call that writes page k into so many bytes that there is room for it answers with its length, 0 if there is none,
   module _ (room : ℕ) (h : length (pageIf l k) ≤ room) where
     pub page-answer : writtenLength (outAnswer (writeRefusal l k room) (writtenPage l k)) ≡ length (pageIf l k)
     unfolding pageIf writeRefusal outAnswer
@@ -63,7 +63,7 @@ module _ (l : Layout) (k : ℕ) where
         (λ e. rw (e, le-leb (length (writtenPage l k)) room (rw e at h)))
         (λ e. rw e)
 
-    -- and the page stands in the first bytes.
+    -- and the page is in the first bytes.
     pub page-buffer : (buffer : List ℕ)
         → outBuffer (writeRefusal l k room) (writtenPage l k) buffer ≡ sets buffer 0 (pageIf l k)
     unfolding pageIf writeRefusal outBuffer

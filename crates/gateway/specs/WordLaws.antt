@@ -21,7 +21,7 @@ use Rattle.free_table.specs.ChoosingLaws.{table-facts}
 use Rattle.gateway.specs.HostGrowth.{cutRecord, wordTable, withNextWords}
 use Rattle.gateway.specs.LentWords.{heldRecord, recordAt, firstHeld, loadedWords}
 
--- Words are the first record and the records of the words behind it.
+-- Words are the first record and the records of the words after it.
 first-record : (ws : List ℕ) → 0 < length ws → wordTable ws ≡ recordAt ws 0 ∷ wordTable (drop 3 ws)
 unfolding recordAt
 first-record [] h = absurd (omega arith)
@@ -46,7 +46,7 @@ record-drop ws p h =
     (λ e. let k : length ws < p + 3 = leb-false (p + 3) (length ws) e in
     rw (e, lt-leb 3 (length (drop p ws)) (omega (arith, length-drop p ws))))
 
--- So the records from a place on are the one that begins there and those behind it, as far as there is a place for them.
+-- So the records from a place on are the one that begins there and those after it, as far as there is a place for them.
 pub held-next : (ws : List ℕ) (i : ℕ) → i < 65 → 3 * i < length ws
     → firstHeld (65 - i) (drop (3 * i) ws)
     ≡ heldRecord (recordAt ws (3 * i)) ∷ firstHeld (65 - (i + 1)) (drop (3 * (i + 1)) ws)
@@ -61,11 +61,11 @@ held-next ws i h k =
       p,
     )
 
--- Behind the last word there is no record,
+-- After the last word there is no record,
 pub held-none : (ws : List ℕ) (i : ℕ) → length ws ≤ 3 * i → firstHeld (65 - i) (drop (3 * i) ws) ≡ []
 held-none ws i h = rw (drop-of-length-le ws {i = 3 * i} h) (take-nil (65 - i))
 
--- nor is there a place for one behind 65.
+-- nor is there a place for one after 65.
 pub held-full : (ws : List ℕ) (i : ℕ) → 65 ≤ i → firstHeld (65 - i) (drop (3 * i) ws) ≡ []
 held-full ws i h = let n : 65 - i ≡ 0 = omega arith in rw n
 
@@ -92,7 +92,7 @@ held-rises from (r ∷ rs) =
     (λ e. let m : leb (min 65535 t) 65534 ≡ false = lt-leb (min 65535 t) 65534 (omega (arith, leb-false t 65534 e)) in
     rw (e, m, and-false (leb from t), and-false (leb from (min 65535 t))))
 
--- and where they rise, the records there are the same.
+-- and if they rise, the records there are the same.
 held-same : (from : ℕ) (rs : List TargetRecord) → rising from rs ≡ true → map heldRecord rs ≡ rs
 held-same from [] e = refl
 held-same from (r ∷ rs) e =
@@ -162,7 +162,7 @@ own-words (t ∷ []) = refl
 own-words (t ∷ f ∷ []) = refl
 own-words (t ∷ f ∷ n ∷ ws) = ap (λ (l : List ℕ). t ∷ f ∷ n ∷ l) (own-words ws)
 
--- Words with the next numbers of the table behind a choice are the words of that table.
+-- Words with the next numbers of the table after a choice are the words of that table.
 pub raised-words : (ok : TargetRecord → Bool) (s : ℕ) (ws : List ℕ) → 3 * length (wordTable ws) ≡ length ws
     → wordTable (withNextWords ws (raisedFirst ok s (wordTable ws))) ≡ raisedFirst ok s (wordTable ws)
 raised-words ok s [] e = refl

@@ -22,21 +22,21 @@ ghost use Rattle.gateway.specs.HostGrowth.{laterNumber, growNumber, home
 ghost use Rattle.gateway.specs.HostGrowth.{tableAfter, grownAfter, answerAfter};
 ghost use Rattle.gateway.specs.LentWords.{heldRecord, recordAt, loadedWords, writtenLength, pageIf, StepSays};
 
-// What stands for words that make no whole record: its target makes the table bad.
+// The record for words that make no whole record: its target makes the table bad.
 const CUT_RECORD: TargetRecord = TargetRecord {
     target: 65535,
     free: 0,
     next: 0,
 };
 
-// A target as a table in memory has it: those above 65,534 are equally bad, and stand there as 65,535.
+// A target as a table in memory has it: those above 65,534 are equally bad, and are there as 65,535.
 fn held_target(word: u64) -> u32
     ensures { λ r. ⌜ r ≡ min 65535 word ⌝ }
 {
     if word < 65535 { word as u32 } else { 65535 }
 }
 
-// The record whose three words begin at place p, or the cut record where fewer than three words stand there.
+// The record whose three words begin at place p, or the cut record if fewer than three words are there.
 fn record_at(words: &[u64], p: usize) -> TargetRecord
     requires { ⌜ p < length (now words) ⌝ }
     ensures { λ r. ⌜ r ≡ heldRecord (recordAt (now (words .entry)) p) ⌝ }
@@ -51,7 +51,7 @@ fn record_at(words: &[u64], p: usize) -> TargetRecord
     }
 }
 
-// The table of the words, or the first 65 of its records where they are more: 65 are too many already.
+// The table of the words, or the first 65 of its records if they are more: 65 are too many already.
 fn load(words: &[u64]) -> Table
     ensures { λ r. ⌜ r ≡ loadedWords (now (words .entry)) ⌝ }
 {
@@ -85,7 +85,7 @@ fn put_nexts(words: &mut [u64], t: Table)
     }
 }
 
-// The bytes of the page that was written, 0 where none was.
+// The bytes of the page that was written, 0 if none was.
 fn written(out: PageOut) -> usize
     ensures { λ r. ⌜ r ≡ writtenLength out ⌝ }
 {
@@ -95,7 +95,7 @@ fn written(out: PageOut) -> usize
     }
 }
 
-// How many bytes page `number` of a valid layout has, 0 where there is no such page.
+// How many bytes page `number` of a valid layout has, 0 if there is no such page.
 fn page_length(l: Layout, number: u64) -> usize
     requires { ⌜ valid l ≡ true ⌝ }
     ensures { λ r. ⌜ (r ≡ length (pageIf l number)) × (r ≤ 512) ⌝ }
@@ -123,7 +123,7 @@ fn pages_length(l: Layout) -> usize
     bytes
 }
 
-// Writes page `number` of a valid layout from place p on, and gives its length; where there is no such page, it writes
+// Writes page `number` of a valid layout from place p on, and gives its length; if there is no such page, it writes
 // nothing and gives 0.
 fn put_page(l: Layout, number: u64, buffer: &mut [u8], p: usize) -> usize
     requires { ⌜ (valid l ≡ true) × (p + length (pageIf l number) ≤ length (now buffer)) ⌝ }
@@ -153,7 +153,7 @@ fn put_pages(l: Layout, buffer: &mut [u8])
 }
 
 // Writes the results of growth that was accepted: the next numbers into the words, the pages into the buffer, and the
-// two numbers of the answer. Refused by 20 where the buffer is shorter than the pages.
+// two numbers of the answer. Refused by 20 if the buffer is shorter than the pages.
 fn give(
     l: Layout,
     t: Table,
@@ -192,7 +192,7 @@ fn step(l: Layout, offset: u64, mark: u64, words: &[u64]) -> Grown
     growth::grow_valid(l, offset, mark, load(words))
 }
 
-// The number of an answer, 0 where it was accepted.
+// The number of an answer, 0 if it was accepted.
 fn number_of(out: GrowOut) -> u8
     ensures { λ r. ⌜ r ≡ laterNumber (growSays out) 0 ⌝ }
 {
@@ -202,7 +202,7 @@ fn number_of(out: GrowOut) -> u8
     }
 }
 
-// 1 where the answer says that the offset now has a home, else 0.
+// 1 if the answer says that the offset now has a home, else 0.
 fn home_of(out: GrowOut) -> u64
     ensures { λ r. ⌜ r ≡ homeNumber (growSays out) ⌝ }
 {
@@ -212,9 +212,9 @@ fn home_of(out: GrowOut) -> u64
     }
 }
 
-// Makes one step of growth of the layout whose pages stand back to back in `pages`, for the component that holds the
+// Makes one step of growth of the layout whose pages are back to back in `pages`, for the component that holds the
 // file byte at `offset`. `low_mark` is the low mark in bytes. `table` is the free table, three numbers a record:
-// target, free bytes, next object number; targets rise. It returns 0 where the call is accepted. `grown` then has the
+// target, free bytes, next object number; targets rise. It returns 0 if the call is accepted. `grown` then has the
 // pages of the layout afterwards, back to back, in its first bytes; in `table` the next numbers of the chosen targets
 // are raised; and `answer` is the number of bytes written, and 1 if the offset now has a home, else 0. Else it returns
 // one of these numbers, and all that is lent stays:
@@ -224,7 +224,7 @@ fn home_of(out: GrowOut) -> u64
 //     or one is above 65,534;
 //  16 too few targets are usable;
 //  17 the step would leave 17 components;
-//  18 a chosen target and number already stand in the layout;
+//  18 a chosen target and number are in the layout already;
 //  19 a change is due and the generation is 2^32 - 1;
 //  20 `grown` is shorter than the pages.
 #[no_mangle]

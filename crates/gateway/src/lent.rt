@@ -1,5 +1,5 @@
 // The answer of a call is stored where the host lent room for it. Each function returns the number of the answer, and
-// stores only where that is 0.
+// stores only if that is 0.
 use mapping::BackOut;
 use mapping::CutOut;
 use mapping::LookupOut;

@@ -1,15 +1,15 @@
-// The entry points for C, over the bytes of a layout's pages and plain numbers. The pages stand back to back, each
+// The entry points for C, over the bytes of a layout's pages and plain numbers. The pages are back to back, each
 // ending after the records that its head counts. In C a slice is a pointer and a length, the pointer first.
 //
 // Every call returns 0, or the number of a refusal; a call that is refused stores nothing. A refusal of the reading of
 // the pages comes first, by one of these numbers:
 //  1 the bytes end with pages outstanding;
-//  2 bytes stand behind the last page;
+//  2 there are bytes after the last page;
 //  3 a page is not of the form of a page;
 //  4 a page's number is not the next, or its generation is not that of page 0;
 //  5 there are more than 16 components;
 //  6, 7, 8 the components break the rules of fields, of neighbours or of distinctness.
-// The pages are read in place: no layout is built but where a page of it is asked for, or it is to grow.
+// The pages are read in place: a layout is built only if a page of it is asked for, or it is to grow.
 //
 // Offsets, lengths and bytes are counted in bytes, a file byte from the file's start and an object byte from its
 // object's; pages, components and stripes are counted from 0.
@@ -97,8 +97,8 @@ pub extern "C" fn moorsickle_cut(
     lent::put_count(cut, count)
 }
 
-// Writes page `number` of the layout into the first bytes of `buffer`; the bytes behind the page stay. A page takes the
-// next component where the page then has at most 512 bytes, however the pages handed in were cut. `written` receives
+// Writes page `number` of the layout into the first bytes of `buffer`; the bytes after the page stay. A page takes the
+// next component if the page then has at most 512 bytes, however the pages handed in were cut. `written` receives
 // the number of bytes of the page. Refused, once the pages are read, by one of these numbers:
 //  4 the layout has no page of this number;
 //  20 the buffer is shorter than the page.

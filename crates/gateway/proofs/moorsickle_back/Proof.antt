@@ -6,7 +6,7 @@ use Rattle.layout.specs.Rows.{objectOf}
 use Rattle.mapping.specs.Homes.{inObject}
 use Rattle.mapping.specs.Back.{backRefusal, byteOf, backIn}
 use Rattle.gateway.specs.Host.{backNumber, offsetAfter}
-use Rattle.gateway.specs.FoundLaws.{found-refused, found-answer}
+use Rattle.gateway.specs.FoundLaws.{found-refused, found-places, found-answer}
 use Rattle.gateway.proofs.moorsickle_back.Statement.{statement}
 use Rattle.gateway.proofs.moorsickle_back.Tie as tie
 
@@ -14,9 +14,6 @@ returns : tie.Need-returns
 unfolding backNumber offsetAfter
 returns c =
     let f = found-refused (c .before .before .before .read .ensures) (λ z. omega arith) in (f .number _, f .lent _ _ _)
-
-back-requires : tie.Need-back-requires
-back-requires c κs = let f = c .before .before .before .read .ensures in (f .valid-at (omega arith), f .room)
 
 returns-2 : tie.Need-returns-2
 unfolding backNumber offsetAfter backIn
@@ -29,5 +26,5 @@ returns-2 c =
 
 pub moorsickle-back-spec : {M : Type 1} → statement M
 moorsickle-back-spec =
-    tie.close
-    (tie.spec (λ c κs. search needs) (λ c. search needs) returns back-requires (λ c κs. search needs) returns-2)
+    tie.close (tie.spec (λ c κs. search needs) (λ c. search needs) returns
+    (λ c κs. found-places (c .before .before .before .read .ensures) (omega arith)) (λ c κs. search needs) returns-2)

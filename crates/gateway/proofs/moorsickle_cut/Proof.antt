@@ -5,10 +5,10 @@ use native.Mathlib.Omega.{arith}
 use lib.ListN.{length}
 use denote.Ref.{now}
 use borrow.Author.Needs.{needs}
-use Rattle.mapping.specs.Cutting.{cutRefusal, cutCount, cutPieces, cutIn}
+use Rattle.mapping.specs.Cutting.{cutRefusal, cutCount, cutIn}
 use Rattle.gateway.specs.Host.{cutNumber, piecesAfter, countAfter}
 use Rattle.gateway.specs.HostLaws.{room-lent}
-use Rattle.gateway.specs.FoundLaws.{found-refused, found-own, found-components, found-answer}
+use Rattle.gateway.specs.FoundLaws.{found-refused, found-places, found-own, found-components, found-answer}
 use Rattle.gateway.proofs.moorsickle_cut.Statement.{statement}
 use Rattle.gateway.proofs.moorsickle_cut.Tie as tie
 
@@ -17,9 +17,6 @@ unfolding cutNumber piecesAfter countAfter
 returns c =
     let f = found-refused (c .before .before .before .read .ensures) (λ z. omega arith) in
     (f .number _, f .lent _ _ _, f .lent _ _ _)
-
-cut-requires : tie.Need-cut-requires
-cut-requires c κs = let f = c .before .before .before .before .read .ensures in (f .valid-at (omega arith), f .room)
 
 returns-2 : tie.Need-returns-2
 unfolding cutNumber piecesAfter countAfter cutIn
@@ -39,6 +36,6 @@ returns-2 c =
 
 pub moorsickle-cut-spec : {M : Type 1} → statement M
 moorsickle-cut-spec =
-    tie.close
-    (tie.spec (λ c κs. search needs) (λ c. search needs) returns cut-requires (λ c κs. search needs)
+    tie.close (tie.spec (λ c κs. search needs) (λ c. search needs) returns
+    (λ c κs. found-places (c .before .before .before .before .read .ensures) (omega arith)) (λ c κs. search needs)
     (λ c. search needs) returns-2)

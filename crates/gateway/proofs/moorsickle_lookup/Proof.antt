@@ -1,12 +1,11 @@
 -- `gateway::moorsickle_lookup` meets its contract: a refusal of the reading comes first; else what `lookup` says of the
 -- components at the places found is stored.
 use native.Mathlib.Omega.{arith}
-use denote.Ref.{now}
 use borrow.Author.Needs.{needs}
 use Rattle.mapping.specs.Homes.{homeOf}
 use Rattle.mapping.specs.Lookup.{lookupRefusal, lookupIn}
 use Rattle.gateway.specs.Host.{lookupNumber, homeAfter}
-use Rattle.gateway.specs.FoundLaws.{found-refused, found-answer}
+use Rattle.gateway.specs.FoundLaws.{found-refused, found-places, found-answer}
 use Rattle.gateway.proofs.moorsickle_lookup.Statement.{statement}
 use Rattle.gateway.proofs.moorsickle_lookup.Tie as tie
 
@@ -14,9 +13,6 @@ returns : tie.Need-returns
 unfolding lookupNumber homeAfter
 returns c =
     let f = found-refused (c .before .before .before .read .ensures) (λ z. omega arith) in (f .number _, f .lent _ _ _)
-
-lookup-requires : tie.Need-lookup-requires
-lookup-requires c κs = let f = c .before .before .before .read .ensures in (f .valid-at (omega arith), f .room)
 
 returns-2 : tie.Need-returns-2
 unfolding lookupNumber homeAfter lookupIn
@@ -28,5 +24,5 @@ returns-2 c =
 
 pub moorsickle-lookup-spec : {M : Type 1} → statement M
 moorsickle-lookup-spec =
-    tie.close
-    (tie.spec (λ c κs. search needs) (λ c. search needs) returns lookup-requires (λ c κs. search needs) returns-2)
+    tie.close (tie.spec (λ c κs. search needs) (λ c. search needs) returns
+    (λ c κs. found-places (c .before .before .before .read .ensures) (omega arith)) (λ c κs. search needs) returns-2)

@@ -49,6 +49,5 @@ returns-2 c =
 
 pub moorsickle-page-spec : {M : Type 1} → statement M
 moorsickle-page-spec =
-    tie.close
-    (tie.spec (λ c κs. search needs) (λ c. search needs) returns layout-at-requires write-page-requires
+    tie.close (tie.spec (λ c κs. search needs) (λ c. search needs) returns layout-at-requires write-page-requires
     (λ c κs. search needs) (λ c. search needs) returns-2)

@@ -7,4 +7,5 @@ use Rattle.gateway.proofs.growing.home_of.Tie as tie
 pub home-of-spec : {M : Type 1} → statement M
 unfolding growSays
 home-of-spec =
-    tie.close (tie.spec (λ c. search needs) (λ c. search needs) (λ c. search needs) (λ c. search needs) (λ c. search needs))
+    tie.close (tie.spec (λ c. search needs) (λ c. search needs) (λ c. search needs) (λ c. search needs)
+    (λ c. search needs))

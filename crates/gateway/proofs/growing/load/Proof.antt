@@ -28,7 +28,7 @@ abbrev μ-loop : tie.MeasureT-loop
 loop-holds : tie.Need-loop-holds Inv-loop μ-loop
 loop-holds c = (search needs, refl, sym (zero-add _), refl)
 
--- Where there is no record from i on, the table is loaded.
+-- If there is no record from i on, the table is loaded.
 done : (c : tie.At-loop Inv-loop μ-loop) → let ws = c .before .before .args .words .now in let i = c .loop .i in
     firstHeld (65 - i) (drop (3 * i) ws) ≡ [] → c .loop .t ≡ loadedWords ws
 unfolding loadedWords
@@ -59,5 +59,6 @@ returns-2 c =
 
 pub load-spec : {M : Type 1} → statement M
 load-spec =
-    tie.close (tie.spec Inv-loop μ-loop loop-holds (λ c. search needs) returns (λ c. search needs) (λ c κs. search needs)
-    (λ c. search needs) (λ c. search needs) (λ c. search needs) (λ c. search needs) loop-again returns-2)
+    tie.close (tie.spec Inv-loop μ-loop loop-holds (λ c. search needs) returns (λ c. search needs)
+    (λ c κs. search needs) (λ c. search needs) (λ c. search needs) (λ c. search needs) (λ c. search needs) loop-again
+    returns-2)

@@ -105,5 +105,5 @@ returns-3 c =
 pub moorsickle-grow-spec : {M : Type 1} → statement M
 moorsickle-grow-spec =
     tie.close (tie.spec (λ c κs. search needs) (λ c. search needs) returns layout-at-requires step-requires
-    (λ c κs. search needs) (λ c. search needs) (λ c. search needs) returns-2 (λ c κs. search needs) give-requires (λ c. search needs)
-    (λ c. search needs) returns-3)
+    (λ c κs. search needs) (λ c. search needs) (λ c. search needs) returns-2 (λ c κs. search needs) give-requires
+    (λ c. search needs) (λ c. search needs) returns-3)

@@ -1,4 +1,4 @@
--- `gateway::growing::put_nexts` meets its contract: behind turn i the words have the next numbers of the first i records.
+-- `gateway::growing::put_nexts` meets its contract: after turn i the words have the next numbers of the first i records.
 use Prim.Native.Nat.{ℕ, _-_, _≤_}
 use mathlib.Core.Path.{_≡_, refl, ap, _∙_}
 use native.Mathlib.Omega.{arith}
@@ -16,9 +16,6 @@ Inv-loop words₀ t n i₀ words i =
 
 abbrev μ-loop : tie.MeasureT-loop
 μ-loop words₀ t n i₀ words i = n - i
-
-loop-holds : tie.Need-loop-holds Inv-loop μ-loop
-loop-holds c = (search needs, refl, refl)
 
 loop-again : tie.Need-loop-again Inv-loop μ-loop
 loop-again c =
@@ -43,5 +40,6 @@ returns c =
 
 pub put-nexts-spec : {M : Type 1} → statement M
 put-nexts-spec =
-    tie.close (tie.spec Inv-loop μ-loop loop-holds (λ c. search needs) (λ c. search needs) (λ c. search needs) (λ c. search needs)
-    (λ c. search needs) (λ c. search needs) (λ c. search needs) (λ c. search needs) loop-again (λ c. search needs) returns)
+    tie.close (tie.spec Inv-loop μ-loop (λ c. (search needs, refl, refl)) (λ c. search needs) (λ c. search needs)
+    (λ c. search needs) (λ c. search needs) (λ c. search needs) (λ c. search needs) (λ c. search needs)
+    (λ c. search needs) loop-again (λ c. search needs) returns)

@@ -1,9 +1,9 @@
 -- `gateway::growing::put_pages` meets its contract: all stores give what those from page k on give to the buffer.
 use Prim.Native.Nat.{_+_, _-_, _≤_}
 use mathlib.Core.Path.{_≡_, refl, sym, ap, _∙_}
-use mathlib.Core.List.{List, [], _∷_}
+use mathlib.Core.List.{[]}
 use native.Mathlib.Omega.{arith}
-use lib.ListN.{length, length-append}
+use lib.ListN.{length, length-append, drop-of-length-le}
 use lib.Dec.{eqb}
 use lib.Seq.{sets}
 use borrow.Author.Needs.{needs}
@@ -15,11 +15,6 @@ use Rattle.gateway.specs.LentWords.{pageIf, pagesFrom}
 use Rattle.gateway.specs.PageRunLaws.{pages-start, pages-end, pages-none, pages-next}
 use Rattle.gateway.proofs.growing.put_pages.Statement.{statement}
 use Rattle.gateway.proofs.growing.put_pages.Tie as tie
-
--- A list of no elements is empty.
-length-zero : {A : Type 0} (l : List A) → length l ≡ 0 → l ≡ []
-length-zero [] e = refl
-length-zero (a ∷ l) e = absurd (omega arith)
 
 abbrev Inv-loop : tie.InvT-loop
 Inv-loop l buffer₀ p₀ k₀ buffer p k =
@@ -37,7 +32,7 @@ loop-holds c =
     let e = pages-start (a .l) in
     (search needs, refl, omega (arith, ap length e, c .before .pre .1), ap (sets (a .buffer .now) 0) e)
 
--- Page k fits behind place p.
+-- Page k fits after place p.
 fits : (c : tie.In-loop Inv-loop μ-loop) → let p = c .before .loop in let a = c .before .before .before .args in
     p .p + length (pageIf (a .l) (p .k)) ≤ length (a .buffer .now)
 fits c =
@@ -63,7 +58,7 @@ returns c =
     let k = p .loop .k in
     let buffer = p .loop .buffer in
     let z : length (pageIf l k) ≡ 0 = omega (arith, put .put-page .ensures .0) in
-    let none : pageIf l k ≡ [] = length-zero (pageIf l k) z in
+    let none : pageIf l k ≡ [] = drop-of-length-le (pageIf l k) {i = 0} (omega arith) in
     put .put-page .ensures .1 ∙ ap (sets buffer (p .loop .p)) none
     ∙ sym (rw (pages-none l k (put .before .before .loop-test .taken) z) at (p .loop .inv .3))
 

@@ -24,5 +24,5 @@ returns-2 c n h e =
 
 pub put-home-spec : {M : Type 1} → statement M
 put-home-spec =
-    tie.close
-    (tie.spec (λ c. search needs) (λ c. search needs) (λ c. search needs) (λ c. search needs) returns returns-2)
+    tie.close (tie.spec (λ c. search needs) (λ c. search needs) (λ c. search needs) (λ c. search needs) returns
+    returns-2)

@@ -15,7 +15,7 @@ unfolding signed bitsOf
 signed-plus (pos n) f h = refl
 signed-plus (negsuc n) f h = absurd (omega (arith, f .sfits))
 
--- and from there on they are 2^32 less what stands behind the sign.
+-- and from there on they are 2^32 less what is after the sign.
 pub signed-minus : (z : ℤ) → SFits w32 z → 2147483648 ≤ bitsOf z → signed z ≡ 45 ∷ decimal (4294967296 - bitsOf z)
 unfolding signed bitsOf
 signed-minus (pos n) f h = absurd (omega (arith, f .sfits))

@@ -11,7 +11,7 @@ use borrow.Author.Tests.{ltb-true, ltb-false}
 use Rattle.lists.specs.Bools.{bool-cases}
 use Rattle.listing.specs.Listing.{digit, decimalBy, decimal}
 
--- The number that digits stand for, the highest first, behind digits that stand for v.
+-- The number that digits stand for, the highest first, after digits that stand for v.
 abbrev pub valueFrom : ℕ → List ℕ → ℕ
 valueFrom v [] = v
 valueFrom v (d ∷ ds) = valueFrom (v * 10 + (d - 48)) ds

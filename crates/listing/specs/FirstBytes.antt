@@ -31,7 +31,7 @@ closed-first c (suc m) (b ∷ s) h = refl
 rest-first : (k j : ℕ) (s : List ℕ) → k ≤ length s → drop k (take (k + j) s) ≡ take j (drop k s)
 rest-first k j s h = rw (take-add k j s) (drop-at (take k s) (take j (drop k s)) k (length-take-le k s h))
 
--- A page that stands first in many bytes: the first m of them have the same page first.
+-- A page that is first in many bytes: the first m of them have the same page first.
 module _ (m : ℕ) (s : List ℕ) (h : 514 < m) (k : m < length s) where
   listed-first : u16At s 0 ≤ 512
       → listedCut (take m s) ≡ next (take (u16At s 0) (drop 2 s)) (take (m - (2 + u16At s 0)) (drop (2 + u16At s 0) s))
@@ -52,7 +52,7 @@ module _ (m : ℕ) (s : List ℕ) (h : 514 < m) (k : m < length s) where
       ∙ ap (λ (v : ℕ). next (take v (drop 2 t)) (drop (2 + v) t)) u
       ∙ ap₂ next a b
 
-  -- A length above 512 stands in both.
+  -- A length above 512 is in both.
   long-first : 512 < u16At s 0 → listedCut (take m s) ≡ listedCut s
   long-first g =
       let n : length (take m s) ≡ m = length-take-le m s (omega arith) in
@@ -60,7 +60,7 @@ module _ (m : ℕ) (s : List ℕ) (h : 514 < m) (k : m < length s) where
       listed-long (take m s) (omega arith) (omega arith) (omega arith)
       ∙ sym (listed-long s (omega arith) (omega arith) g)
 
--- Where at most `left` pages are to come, more bytes than 514 for each decide the reading.
+-- If at most `left` pages are to come, more bytes than 514 for each decide the reading.
 abbrev Decided : ℕ → Type 0
 Decided left =
     (m : ℕ) (c : Collector) (s : List ℕ) → 514 * left < m
@@ -95,7 +95,7 @@ on-first (suc left) m c s h = bool-cases (leb (length s) m)
     ap₂ (λ (a b : Reading). cond (c .complete) a b) (closed-first c m s (omega arith))
     (on-bytes left (on-first left) m c s h k))
 
--- The listing of any bytes is that of their first m, where m is above 17 * 514.
+-- The listing of any bytes is that of their first m, if m is above 17 * 514.
 pub listing-first : (m : ℕ) (s : List ℕ) → 8738 < m → listingOf (take m s) ≡ listingOf s
 unfolding listingOf readRun
 listing-first m s h = ap readingText (on-first 17 m newCollector s h)

@@ -42,7 +42,7 @@ kindWord init extension = cond init (ascii "init") (cond extension (ascii "exten
 abbrev pub sizeIn : Bool → ℕ → ℕ → ℕ
 sizeIn extension stripe size = cond extension size stripe
 
--- A line: its words with a space between them, and a line feed behind the last.
+-- A line: its words with a space between them, and a line feed after the last.
 abbrev pub line : List (List ℕ) → List ℕ
 line [] = 10 ∷ []
 line (w ∷ []) = w ++ (10 ∷ [])

@@ -21,7 +21,7 @@ fn put_layout(out: &mut [u8], l: Layout) -> usize
 }
 
 // Reads pages, each after its length, writes their listing into the first bytes of `out`, and tells its length. Every
-// listing fits: it has at most 17 lines of at most 144 bytes. The bytes behind it stay.
+// listing fits: it has at most 17 lines of at most 144 bytes. The bytes after it stay.
 pub fn list(input: &[u8], out: &mut [u8]) -> usize
     requires { ⌜ 2448 ≤ length (now out) ⌝ }
     ensures { λ r. ⌜ (r ≡ length (listingOf (now (input .entry))))

@@ -8,8 +8,8 @@ ghost use Prim.Native.Nat.{_+_, _*_, _≤_};
 ghost use lib.ListN.{length};
 ghost use lib.Seq.{sets};
 ghost use Rattle.layout.specs.Records.{view};
-ghost use Rattle.listing.specs.Listing.{decimal, line, sizeIn, headLine, stripingWords, stateWords, componentLine};
-ghost use Rattle.listing.specs.Listing.{componentLines, refusedLine};
+ghost use Rattle.listing.specs.Listing.{decimal, line, sizeIn, headLine, stripingWords, stateWords};
+ghost use Rattle.listing.specs.Listing.{componentLine, componentLines, refusedLine};
 
 // Writes a line of four words from the first byte on, a text and a number and again, and tells where it ends.
 fn put_pairs(out: &mut [u8], name: &[u8], m: u64, other: &[u8], n: u64) -> usize

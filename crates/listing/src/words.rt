@@ -1,4 +1,4 @@
-// The words of the listing, written into a lent buffer, each with a byte behind it: a space or a line feed.
+// The words of the listing, written into a lent buffer, each with a byte after it: a space or a line feed.
 ghost use mathlib.Core.Path.{_≡_};
 ghost use mathlib.Core.List.{[], _∷_, _++_};
 ghost use Prim.Native.Nat.{_+_, _≤_};
@@ -21,23 +21,23 @@ fn put_decimal(out: &mut [u8], at: usize, n: u64) -> usize
     place + 1
 }
 
-// Writes a number in decimal and a byte behind it from the place on, and tells where they end.
-pub(crate) fn put_number(out: &mut [u8], at: usize, n: u64, behind: u8) -> usize
+// Writes a number in decimal and a byte after it from the place on, and tells where they end.
+pub(crate) fn put_number(out: &mut [u8], at: usize, n: u64, last: u8) -> usize
     requires { ⌜ at + 21 ≤ length (now out) ⌝ }
-    ensures { λ r. ⌜ (r ≡ at + length (decimal n ++ (behind ∷ [])))
-        × (now (out .exit) ≡ sets (now (out .entry)) at (decimal n ++ (behind ∷ []))) ⌝ }
+    ensures { λ r. ⌜ (r ≡ at + length (decimal n ++ (last ∷ [])))
+        × (now (out .exit) ≡ sets (now (out .entry)) at (decimal n ++ (last ∷ []))) ⌝ }
     ensures { λ r. ⌜ r ≤ at + 21 ⌝ }
 {
     let place = put_decimal(out, at, n);
-    out[place] = behind;
+    out[place] = last;
     place + 1
 }
 
-// Writes a text and a byte behind it from the place on, and tells where they end.
-pub(crate) fn put_text(out: &mut [u8], at: usize, text: &[u8], behind: u8) -> usize
+// Writes a text and a byte after it from the place on, and tells where they end.
+pub(crate) fn put_text(out: &mut [u8], at: usize, text: &[u8], last: u8) -> usize
     requires { ⌜ at + length (now text) + 1 ≤ length (now out) ⌝ }
-    ensures { λ r. ⌜ (r ≡ at + length (now (text .entry) ++ (behind ∷ [])))
-        × (now (out .exit) ≡ sets (now (out .entry)) at (now (text .entry) ++ (behind ∷ []))) ⌝ }
+    ensures { λ r. ⌜ (r ≡ at + length (now (text .entry) ++ (last ∷ [])))
+        × (now (out .exit) ≡ sets (now (out .entry)) at (now (text .entry) ++ (last ∷ []))) ⌝ }
     ensures { λ r. ⌜ r ≡ at + length (now (text .entry)) + 1 ⌝ }
 {
     let n = text.len();
@@ -46,50 +46,50 @@ pub(crate) fn put_text(out: &mut [u8], at: usize, text: &[u8], behind: u8) -> us
         out[at + i] = text[i];
         i += 1;
     }
-    out[at + n] = behind;
+    out[at + n] = last;
     at + n + 1
 }
 
-// Writes where an extent ends, and a byte behind it.
-pub(crate) fn put_end(out: &mut [u8], at: usize, end: u64, behind: u8) -> usize
+// Writes where an extent ends, and a byte after it.
+pub(crate) fn put_end(out: &mut [u8], at: usize, end: u64, last: u8) -> usize
     requires { ⌜ at + 21 ≤ length (now out) ⌝ }
-    ensures { λ r. ⌜ (r ≡ at + length (endWord end ++ (behind ∷ [])))
-        × (now (out .exit) ≡ sets (now (out .entry)) at (endWord end ++ (behind ∷ []))) ⌝ }
+    ensures { λ r. ⌜ (r ≡ at + length (endWord end ++ (last ∷ [])))
+        × (now (out .exit) ≡ sets (now (out .entry)) at (endWord end ++ (last ∷ []))) ⌝ }
     ensures { λ r. ⌜ r ≤ at + 21 ⌝ }
 {
     if end == 18446744073709551615 {
-        return put_text(out, at, b"eof", behind);
+        return put_text(out, at, b"eof", last);
     }
-    put_number(out, at, end, behind)
+    put_number(out, at, end, last)
 }
 
-// Writes the kind of a component, and a byte behind it.
-pub(crate) fn put_kind(out: &mut [u8], at: usize, init: bool, extension: bool, behind: u8) -> usize
+// Writes the kind of a component, and a byte after it.
+pub(crate) fn put_kind(out: &mut [u8], at: usize, init: bool, extension: bool, last: u8) -> usize
     requires { ⌜ at + 10 ≤ length (now out) ⌝ }
-    ensures { λ r. ⌜ (r ≡ at + length (kindWord init extension ++ (behind ∷ [])))
-        × (now (out .exit) ≡ sets (now (out .entry)) at (kindWord init extension ++ (behind ∷ []))) ⌝ }
+    ensures { λ r. ⌜ (r ≡ at + length (kindWord init extension ++ (last ∷ [])))
+        × (now (out .exit) ≡ sets (now (out .entry)) at (kindWord init extension ++ (last ∷ []))) ⌝ }
     ensures { λ r. ⌜ r ≤ at + 10 ⌝ }
 {
     if init {
-        return put_text(out, at, b"init", behind);
+        return put_text(out, at, b"init", last);
     }
     if extension {
-        return put_text(out, at, b"extension", behind);
+        return put_text(out, at, b"extension", last);
     }
-    put_text(out, at, b"bare", behind)
+    put_text(out, at, b"bare", last)
 }
 
-// Writes a signed number in decimal, and a byte behind it.
-pub(crate) fn put_signed(out: &mut [u8], at: usize, z: i32, behind: u8) -> usize
+// Writes a signed number in decimal, and a byte after it.
+pub(crate) fn put_signed(out: &mut [u8], at: usize, z: i32, last: u8) -> usize
     requires { ⌜ at + 22 ≤ length (now out) ⌝ }
-    ensures { λ r. ⌜ (r ≡ at + length (signed z ++ (behind ∷ [])))
-        × (now (out .exit) ≡ sets (now (out .entry)) at (signed z ++ (behind ∷ []))) ⌝ }
+    ensures { λ r. ⌜ (r ≡ at + length (signed z ++ (last ∷ [])))
+        × (now (out .exit) ≡ sets (now (out .entry)) at (signed z ++ (last ∷ []))) ⌝ }
     ensures { λ r. ⌜ r ≤ at + 22 ⌝ }
 {
     let bits = bytes_le::bits_of(z);
     if bits < 0x8000_0000 {
-        return put_number(out, at, bits as u64, behind);
+        return put_number(out, at, bits as u64, last);
     }
     out[at] = b'-';
-    put_number(out, at + 1, 0x1_0000_0000 - bits as u64, behind)
+    put_number(out, at + 1, 0x1_0000_0000 - bits as u64, last)
 }

@@ -1,12 +1,12 @@
 -- `listing::words::put_decimal` meets its contract: a number below ten is one digit, and any other its tenth, and its
--- last digit behind that. The measure is the number.
+-- last digit after that. The measure is the number.
 use Prim.Native.Nat.{ℕ, _+_, _/_, _<_}
 use native.Mathlib.Omega.{arith}
 use denote.Ref.{now}
 use borrow.Author.Needs.{needs}
 use Rattle.listing.specs.Listing.{digit, decimal}
 use Rattle.listing.specs.DecimalLaws.{decimal-one, decimal-more, length-one, length-more}
-use Rattle.listing.proofs.Writing.{byte-behind}
+use Rattle.listing.proofs.Writing.{byte-after}
 use borrow.Fn.Kinds.{In}
 use borrow.Fn.PlainCycle.{Measures, is, falls, and}
 use Rattle.listing.proofs.words.put_decimal.Reads as put-decimal
@@ -76,7 +76,7 @@ module _ (t : ℕ) where
       let first = call .before .before .before .before in
       let a = first .args in
       let e = decimal-more (a .n) (call .before .before .if1 .left) (first .fits .n .fits) in
-      rw e (byte-behind (now (a .out)) _ (decimal (a .n / 10)) (a .at) (call .put-decimal .result) (digit (a .n))
+      rw e (byte-after (now (a .out)) _ (decimal (a .n / 10)) (a .at) (call .put-decimal .result) (digit (a .n))
       (call .put-decimal .ensures))
 
 pub +put-decimal-spec : {M : Type 1} → statement M

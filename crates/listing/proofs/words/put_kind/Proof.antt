@@ -14,20 +14,17 @@ returns c =
 returns-2 : tie.Need-returns-2
 unfolding kindWord
 returns-2 c =
-    let call = c .before .before in
-    let test = call .before .before .before in
-    rw (test .before .if1 .left, test .if2 .taken) (call .put-text2 .ensures .0, omega arith)
+    let test = c .before .before .before .before .before in
+    rw (test .before .if1 .left, test .if2 .taken) (c .before .before .put-text2 .ensures .0, omega arith)
 
 returns-3 : tie.Need-returns-3
 unfolding kindWord
 returns-3 c =
-    let call = c .before .before in
-    let test = call .before .before .before in
-    rw (test .before .if1 .left, test .if2 .left) (call .put-text3 .ensures .0, omega arith)
+    let test = c .before .before .before .before .before in
+    rw (test .before .if1 .left, test .if2 .left) (c .before .before .put-text3 .ensures .0, omega arith)
 
 pub put-kind-spec : {M : Type 1} → statement M
 put-kind-spec =
-    tie.close
-    (tie.spec (λ c. search needs) (λ c κs. search needs) (λ c. search needs) returns (λ c. search needs)
+    tie.close (tie.spec (λ c. search needs) (λ c κs. search needs) (λ c. search needs) returns (λ c. search needs)
     (λ c κs. search needs) (λ c. search needs) returns-2 (λ c. search needs) (λ c κs. search needs) (λ c. search needs)
     returns-3)

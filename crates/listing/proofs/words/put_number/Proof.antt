@@ -4,7 +4,7 @@ use native.Mathlib.Omega.{arith}
 use denote.Ref.{now}
 use Rattle.listing.specs.Listing.{decimal}
 use Rattle.listing.specs.DecimalLaws.{length-decimal}
-use Rattle.listing.proofs.Writing.{byte-behind}
+use Rattle.listing.proofs.Writing.{byte-after}
 use borrow.Author.Needs.{needs}
 use Rattle.listing.proofs.words.put_number.Statement.{statement}
 use Rattle.listing.proofs.words.put_number.Tie as tie
@@ -31,7 +31,7 @@ returns c =
     let call = c .before .before in
     let first = call .before .before .before in
     let a = first .args in (
-      byte-behind (now (a .out)) _ (decimal (a .n)) (a .at) (call .put-decimal .result) (a .behind)
+      byte-after (now (a .out)) _ (decimal (a .n)) (a .at) (call .put-decimal .result) (a .last)
           (call .put-decimal .ensures),
       omega (arith, length-decimal (a .n)),
     )

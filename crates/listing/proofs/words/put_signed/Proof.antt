@@ -1,5 +1,5 @@
--- `listing::words::put_signed` meets its contract: by the bits of the number, and behind the sign of a negative one
--- stands what it is below 0.
+-- `listing::words::put_signed` meets its contract: by the bits of the number, and after the sign of a negative one
+-- is what it is below 0.
 use Prim.Native.Nat.{ℕ, _+_, _-_}
 use mathlib.Core.Path.{_≡_, refl, sym, ap, _∙_}
 use mathlib.Core.List.{[], _∷_, _++_}
@@ -48,14 +48,13 @@ returns-2 c =
     let s : signed (a .z) ≡ 45 ∷ decimal (4294967296 - n) =
     signed-minus (a .z) f (omega arith) ∙ ap (λ (k : ℕ). 45 ∷ decimal (4294967296 - k)) (sym e) in
     rw s (
-      both out (set out (a .at) 45) _ (45 ∷ []) (decimal (4294967296 - n) ++ (a .behind ∷ [])) (a .at) (a .at + 1) _
+      both out (set out (a .at) 45) _ (45 ∷ []) (decimal (4294967296 - n) ++ (a .last ∷ [])) (a .at) (a .at + 1) _
           (refl, refl) (call .put-number2 .ensures .0),
       omega arith,
     )
 
 pub put-signed-spec : {M : Type 1} → statement M
 put-signed-spec =
-    tie.close
-    (tie.spec (λ c κs. search needs) (λ c. search needs) (λ c κs. search needs) (λ c. search needs) returns
-    (λ c. search needs) (λ c. search needs) (λ c. search needs) (λ c. search needs) put-number-requires-2 same-length-2
-    returns-2)
+    tie.close (tie.spec (λ c κs. search needs) (λ c. search needs) (λ c κs. search needs) (λ c. search needs) returns
+    (λ c. search needs) (λ c. search needs) (λ c. search needs) (λ c. search needs) put-number-requires-2
+    same-length-2 returns-2)

@@ -14,7 +14,7 @@ use Rattle.layout.specs.declared.Component.{Component}
 use Rattle.layout.specs.declared.Layout.{Layout}
 use Rattle.layout.specs.Records.{view}
 use Rattle.layout.specs.Rules.{ruleBroken}
-use Rattle.layout.specs.Known.{Kept}
+use Rattle.layout.specs.Known.{RulesKnown}
 use Rattle.page.specs.declared.Head.{Head}
 use Rattle.collector.specs.declared.Collector.{Collector}
 use Rattle.collector.specs.Collector.{gathered, countsAgree, collectorOk}
@@ -116,7 +116,7 @@ sound-added c h cs l some s e =
 -- Where the collector is not complete, the layout with more components behind the gathered ones is one whose first
 -- components are known to break no rule with pages outstanding.
 pub kept-joined : (c : Collector) (g : ℕ) (cs : List Component) → length (c .layout .components) ≡ 16 → Sound c
-    → c .complete ≡ false → c .layout .count + length cs ≤ 16 → Kept (c .layout .count) (joined g (c .layout) cs)
+    → c .complete ≡ false → c .layout .count + length cs ≤ 16 → RulesKnown (c .layout .count) (joined g (c .layout) cs)
 kept-joined c g cs l s e h =
     let v = view-joined g (c .layout) cs (omega arith) in
     let t : take (c .layout .count) (view (joined g (c .layout) cs)) ≡ gathered c =

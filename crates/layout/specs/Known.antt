@@ -25,5 +25,5 @@ pub record Joined (from n : ℕ) (list : List Neighbour) : Type 0 where
   pub empties : every (take (from - 1) (emptyTests list)) ≡ true
 
 -- The first `from` components of a layout break no rule with pages outstanding; it has at most 16, and at least `from`.
-abbrev pub Kept : ℕ → Layout → Type 0
-Kept from l = (from ≤ l .count) × (l .count ≤ 16) × (ruleBroken true (take from (view l)) ≡ 0)
+abbrev pub RulesKnown : ℕ → Layout → Type 0
+RulesKnown from l = (from ≤ l .count) × (l .count ≤ 16) × (ruleBroken true (take from (view l)) ≡ 0)

@@ -11,7 +11,7 @@ ghost use Rattle.lists.specs.Tests.{every, each, firstFailed};
 ghost use Rattle.layout.specs.Records.{countOf, recordsOf, view};
 ghost use Rattle.layout.specs.Fields.{nonzeroMultiple, extensionOk, stripedOk, kindOk, isMinusOne, isTarget};
 ghost use Rattle.layout.specs.Fields.{firstTargetOk, targetOk, fieldsOk, fieldTests};
-ghost use Rattle.layout.specs.Known.{Passed, Kept};
+ghost use Rattle.layout.specs.Known.{Passed, RulesKnown};
 
 // Is n a nonzero multiple of 65,536?
 pub fn nonzero_multiple(n: u64) -> bool
@@ -174,7 +174,7 @@ pub fn field_fault(l: Layout, from: usize) -> usize
 
 // Do all components keep the rules of the fields? The first `from` are known to break no rule with pages outstanding.
 pub fn fields_hold(l: Layout, from: usize) -> bool
-    requires { ⌜ Kept from l ⌝ }
+    requires { ⌜ RulesKnown from l ⌝ }
     ensures { λ r. ⌜ r ≡ every (fieldTests (view l)) ⌝ }
 {
     let n = l.count;

@@ -6,7 +6,7 @@ ghost use Prim.Native.Nat.{_≤_};
 ghost use lib.ListN.{take};
 ghost use Rattle.layout.specs.Records.{view, outlineOf, packed};
 ghost use Rattle.layout.specs.Rules.{laterRuleBroken, ruleBroken, valid};
-ghost use Rattle.layout.specs.Known.{Kept};
+ghost use Rattle.layout.specs.Known.{RulesKnown};
 ghost use Rattle.layout.specs.Holder.{holderOf};
 
 pub mod distinct;
@@ -140,7 +140,7 @@ pub fn outline_of(l: Layout) -> Outline
 
 // The number of the first rule that the components break among those of neighbours and distinctness, 7 or 8, or 0.
 fn later_rule_broken(l: Layout, more: bool, from: usize) -> u8
-    requires { ⌜ Kept from l ⌝ }
+    requires { ⌜ RulesKnown from l ⌝ }
     ensures { λ r. ⌜ r ≡ laterRuleBroken more (view l) ⌝ }
 {
     let n = l.count;
@@ -161,7 +161,7 @@ fn later_rule_broken(l: Layout, more: bool, from: usize) -> u8
 // are outstanding. The first `from` components are known to break no rule with pages outstanding, and only the rest is
 // asked.
 pub fn rule_broken_from(l: Layout, more: bool, from: usize) -> u8
-    requires { ⌜ Kept from l ⌝ }
+    requires { ⌜ RulesKnown from l ⌝ }
     ensures { λ r. ⌜ r ≡ ruleBroken more (view l) ⌝ }
 {
     if !fields::fields_hold(l, from) {

@@ -49,4 +49,6 @@ returns-3 c =
     (refused-content (a .c) s (e .if1 .left) (formed (c .before))))
 
 pub take-next-spec : {M : Type 1} → statement M
-take-next-spec = tie.close (tie.spec (λ c. search needs) returns (λ c κs. search needs) (λ c. search needs) returns-2 take-walked-requires returns-3)
+take-next-spec =
+    tie.close (tie.spec (λ c. search needs) returns (λ c κs. search needs) (λ c. search needs) returns-2
+    take-walked-requires returns-3)

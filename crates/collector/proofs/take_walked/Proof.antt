@@ -10,7 +10,7 @@ use borrow.Author.Tests.{not-true, not-false}
 use Rattle.lists.specs.Slices.{unmapped}
 use Rattle.layout.specs.Records.{view}
 use Rattle.layout.specs.Rules.{ruleBroken}
-use Rattle.layout.specs.Known.{Kept}
+use Rattle.layout.specs.Known.{RulesKnown}
 use Rattle.layout.specs.declared.Layout.{Layout}
 use Rattle.page.specs.declared.Head.{Head}
 use Rattle.page.specs.Content.{headOf, componentsOf}
@@ -54,7 +54,7 @@ built c =
 
 -- Its first components break no rule with pages outstanding.
 kept : (c : tie.After-with-components) → (let a = start (next-page c) .args in
-    Kept (a .c .layout .count) (c .with-components .result))
+    RulesKnown (a .c .layout .count) (c .with-components .result))
 kept c =
     let h = decoded (next-page c) in
     let s = start (next-page c) in
@@ -62,7 +62,7 @@ kept c =
     let cs = componentsOf (now (s .args .s)) in
     let n = count-is (now (s .args .s)) (h .head-of .result) (h .head-of .ensures) in
     let k : length (l .components) ≡ 16 = unmapped (l .components) _ (s .good .0 .1 .1 .1 .1 .0 .1 .1 .1 .1 .0 .1 .0 .1) in
-    subst (Kept (l .count)) (sym (built c))
+    subst (RulesKnown (l .count)) (sym (built c))
     (kept-joined (s .args .c) (headOf (now (s .args .s)) .generation) cs k
     (sound-facts (s .args .c) (s .pre .0)) (s .pre .1) (omega arith))
 
@@ -163,4 +163,7 @@ returns-4 c =
     ∙ sym (ap (λ (k : ℕ). settled k (a .c) (headOf s) (componentsOf s)) z)
 
 pub take-walked-spec : {M : Type 1} → statement M
-take-walked-spec = tie.close (tie.spec (λ c. search needs) (λ c. search needs) (λ c. search needs) returns (λ c. search needs) add-if2 (λ c. search needs) returns-2 with-components-requires rule-broken-from-requires (λ c. search needs) returns-3 add-accept (λ c. search needs) returns-4)
+take-walked-spec =
+    tie.close (tie.spec (λ c. search needs) (λ c. search needs) (λ c. search needs) returns (λ c. search needs) add-if2
+    (λ c. search needs) returns-2 with-components-requires rule-broken-from-requires (λ c. search needs) returns-3
+    add-accept (λ c. search needs) returns-4)

@@ -22,9 +22,6 @@ Inv-loop generation s n places out₀ from i₀ out i =
 abbrev μ-loop : tie.MeasureT-loop
 μ-loop generation s n places out₀ from i₀ out i = n - i
 
-loop-holds : tie.Need-loop-holds Inv-loop μ-loop
-loop-holds c = (search needs, rw add-zero)
-
 component-at-requires : tie.Need-component-at-requires Inv-loop μ-loop
 component-at-requires c κs = c .before .before .before .pre .1 (c .before .loop .i) (c .loop-test .taken)
 
@@ -52,4 +49,7 @@ returns c =
     λ i. record { generation = a .generation; count = n i; components = e i }
 
 pub with-components-spec : {M : Type 1} → statement M
-with-components-spec = tie.close (tie.spec Inv-loop μ-loop loop-holds (λ c. search needs) (λ c. search needs) component-at-requires (λ c. search needs) (λ c. search needs) (λ c. search needs) (λ c. search needs) (λ c. search needs) loop-again (λ c. search needs) returns)
+with-components-spec =
+    tie.close (tie.spec Inv-loop μ-loop (λ c. (search needs, rw add-zero)) (λ c. search needs) (λ c. search needs)
+    component-at-requires (λ c. search needs) (λ c. search needs) (λ c. search needs) (λ c. search needs)
+    (λ c. search needs) loop-again (λ c. search needs) returns)

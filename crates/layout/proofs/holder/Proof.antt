@@ -53,4 +53,6 @@ returns-2 c =
     (sym (p .loop .inv .2 ∙ rw (slice-done (l .components) (l .count) (p .loop .i) (c .loop-test .left)) (add-zero _)), omega arith)
 
 pub holder-spec : {M : Type 1} → statement M
-holder-spec = tie.close (tie.spec Inv-loop μ-loop loop-holds (λ c. search needs) (λ c. search needs) returns (λ c. search needs) (λ c. search needs) loop-again returns-2)
+holder-spec =
+    tie.close (tie.spec Inv-loop μ-loop loop-holds (λ c. search needs) (λ c. search needs) returns (λ c. search needs)
+    (λ c. search needs) loop-again returns-2)

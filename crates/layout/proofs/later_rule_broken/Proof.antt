@@ -97,4 +97,6 @@ returns-3 c =
     rw (← linked n, not-false (n .neighbours-hold .result) (c .before .before .before .before .if1 .left), ← differ (c .before), c .if2 .left)
 
 pub later-rule-broken-spec : {M : Type 1} → statement M
-later-rule-broken-spec = tie.close (tie.spec (λ c κs. search needs) neighbours-hold-requires returns id-fault-requires objects-differ-requires returns-2 returns-3)
+later-rule-broken-spec =
+    tie.close (tie.spec (λ c κs. search needs) neighbours-hold-requires returns id-fault-requires
+    objects-differ-requires returns-2 returns-3)

@@ -21,9 +21,6 @@ Inv-loop l n neighbours₀ ids₀ i₀ neighbours ids i =
 abbrev μ-loop : tie.MeasureT-loop
 μ-loop l n neighbours₀ ids₀ i₀ neighbours ids i = n - i
 
-loop-holds : tie.Need-loop-holds Inv-loop μ-loop
-loop-holds c = (search needs, refl, refl)
-
 loop-again : tie.Need-loop-again Inv-loop μ-loop
 loop-again c =
     let p = c .before .before in
@@ -43,4 +40,7 @@ returns c =
     λ i. record { neighbours = x i; ids = y i }
 
 pub outline-of-spec : {M : Type 1} → statement M
-outline-of-spec = tie.close (tie.spec Inv-loop μ-loop loop-holds (λ c. search needs) (λ c. search needs) (λ c. search needs) (λ c. search needs) (λ c. search needs) (λ c. search needs) (λ c. search needs) (λ c. search needs) loop-again returns)
+outline-of-spec =
+    tie.close (tie.spec Inv-loop μ-loop (λ c. (search needs, refl, refl)) (λ c. search needs) (λ c. search needs)
+    (λ c. search needs) (λ c. search needs) (λ c. search needs) (λ c. search needs) (λ c. search needs)
+    (λ c. search needs) loop-again returns)

@@ -19,9 +19,6 @@ Inv-loop generation count components places₀ i₀ places i =
 abbrev μ-loop : tie.MeasureT-loop
 μ-loop generation count components places₀ i₀ places i = count - i
 
-loop-holds : tie.Need-loop-holds Inv-loop μ-loop
-loop-holds c = (search needs, refl)
-
 loop-again : tie.Need-loop-again Inv-loop μ-loop
 loop-again c =
     let p = c .before .before in
@@ -40,4 +37,6 @@ returns c =
     λ i. record { generation = a .generation; count = n i; components = x i }
 
 pub pack-spec : {M : Type 1} → statement M
-pack-spec = tie.close (tie.spec Inv-loop μ-loop loop-holds (λ c. search needs) (λ c. search needs) (λ c. search needs) (λ c. search needs) (λ c. search needs) (λ c. search needs) loop-again returns)
+pack-spec =
+    tie.close (tie.spec Inv-loop μ-loop (λ c. (search needs, refl)) (λ c. search needs) (λ c. search needs)
+    (λ c. search needs) (λ c. search needs) (λ c. search needs) (λ c. search needs) loop-again returns)

@@ -19,9 +19,6 @@ Inv-loop n from sizes room₀ i₀ room i =
 abbrev μ-loop : tie.MeasureT-loop
 μ-loop n from sizes room₀ i₀ room i = n - i
 
-loop-holds : tie.Need-loop-holds Inv-loop μ-loop
-loop-holds c = (omega arith, omega arith, refl)
-
 returns : tie.Need-returns Inv-loop μ-loop
 returns c =
     let p = c .before .before in
@@ -47,5 +44,5 @@ returns-2 c =
 
 pub page-end-spec : {M : Type 1} → statement M
 page-end-spec =
-    tie.close (tie.spec Inv-loop μ-loop loop-holds (λ c. search needs) (λ c. search needs) returns
-    (λ c. search needs) (λ c. search needs) loop-again returns-2)
+    tie.close (tie.spec Inv-loop μ-loop (λ c. (omega arith, omega arith, refl)) (λ c. search needs) (λ c. search needs)
+    returns (λ c. search needs) (λ c. search needs) loop-again returns-2)

@@ -18,9 +18,6 @@ Inv-loop from to sizes bytes₀ i₀ bytes i =
 abbrev μ-loop : tie.MeasureT-loop
 μ-loop from to sizes bytes₀ i₀ bytes i = to - i
 
-loop-holds : tie.Need-loop-holds Inv-loop μ-loop
-loop-holds c = (omega arith, refl)
-
 -- The sum of the sizes from i on is size i and the sum of those behind it.
 next : (c : tie.In-loop Inv-loop μ-loop) → let i = c .before .loop .i in let a = c .before .before .args in
     sum (slice i (a .to) (a .t1)) ≡ getD (a .t1) i 0 + sum (slice (i + 1) (a .to) (a .t1))
@@ -42,5 +39,5 @@ returns c =
 
 pub page-size-spec : {M : Type 1} → statement M
 page-size-spec =
-    tie.close (tie.spec Inv-loop μ-loop loop-holds (λ c. search needs) (λ c. search needs) add-bytes
+    tie.close (tie.spec Inv-loop μ-loop (λ c. (omega arith, refl)) (λ c. search needs) (λ c. search needs) add-bytes
     (λ c. search needs) (λ c. search needs) loop-again returns)

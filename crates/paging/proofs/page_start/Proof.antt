@@ -17,9 +17,6 @@ Inv-loop sizes n number from₀ page₀ from page = (page ≤ number) × (from �
 abbrev μ-loop : tie.MeasureT-loop
 μ-loop sizes n number from₀ page₀ from page = number - page
 
-loop-holds : tie.Need-loop-holds Inv-loop μ-loop
-loop-holds c = (omega arith, omega arith, refl)
-
 returns : tie.Need-returns Inv-loop μ-loop
 returns c =
     let p = c .before .before in
@@ -49,5 +46,5 @@ returns-2 c =
 
 pub page-start-spec : {M : Type 1} → statement M
 page-start-spec =
-    tie.close (tie.spec Inv-loop μ-loop loop-holds returns (λ c κs. search needs) (λ c. search needs)
-    (λ c. search needs) loop-again returns-2)
+    tie.close (tie.spec Inv-loop μ-loop (λ c. (omega arith, omega arith, refl)) returns (λ c κs. search needs)
+    (λ c. search needs) (λ c. search needs) loop-again returns-2)

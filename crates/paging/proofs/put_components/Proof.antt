@@ -24,9 +24,6 @@ Inv-loop buffer₀ from to l at₀ i₀ buffer at i =
 abbrev μ-loop : tie.MeasureT-loop
 μ-loop buffer₀ from to l at₀ i₀ buffer at i = to - i
 
-loop-holds : tie.Need-loop-holds Inv-loop μ-loop
-loop-holds c = (search needs, refl, search needs, refl)
-
 -- The components from i on are component i and those behind it.
 next : (c : tie.In-loop Inv-loop μ-loop) → let i = c .before .loop .i in let a = c .before .before .before .args in
     slice i (a .to) (a .t2 .components) ≡ getD (a .t2 .components) i unread ∷ slice (i + 1) (a .to) (a .t2 .components)
@@ -72,5 +69,6 @@ returns c =
 
 pub put-components-spec : {M : Type 1} → statement M
 put-components-spec =
-    tie.close (tie.spec Inv-loop μ-loop loop-holds (λ c. search needs) (λ c. search needs) put-component-requires
-    (λ c. search needs) (λ c. search needs) loop-again (λ c. search needs) returns)
+    tie.close (tie.spec Inv-loop μ-loop (λ c. (search needs, refl, search needs, refl)) (λ c. search needs)
+    (λ c. search needs) put-component-requires (λ c. search needs) (λ c. search needs) loop-again (λ c. search needs)
+    returns)

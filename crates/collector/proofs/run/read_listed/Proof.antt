@@ -200,4 +200,10 @@ returns-7 c =
     c .finished .ensures ∙ sym (closed-none (l .loop .c) (rest l) (omega arith)) ∙ closes b
 
 pub read-listed-spec : {M : Type 1} → statement M
-read-listed-spec = tie.close (tie.spec Inv-loop μ-loop (λ c κs. search needs) loop-holds (λ c κs. search needs) returns (λ c. search needs) (λ c κs. search needs) returns-2 (λ c κs. search needs) (λ c. search needs) (λ c κs. search needs) returns-3 (λ c. search needs) (λ c. search needs) (λ c κs. search needs) returns-4 (λ c. search needs) (λ c. search needs) (λ c. search needs) (λ c. search needs) take-next-requires (λ c κs. search needs) (λ c κs. search needs) returns-5 (λ c. search needs) loop-again (λ c κs. search needs) returns-6 finished-requires returns-7)
+read-listed-spec =
+    tie.close (tie.spec Inv-loop μ-loop (λ c κs. search needs) loop-holds (λ c κs. search needs) returns
+    (λ c. search needs) (λ c κs. search needs) returns-2 (λ c κs. search needs) (λ c. search needs)
+    (λ c κs. search needs) returns-3 (λ c. search needs) (λ c. search needs) (λ c κs. search needs) returns-4
+    (λ c. search needs) (λ c. search needs) (λ c. search needs) (λ c. search needs) take-next-requires
+    (λ c κs. search needs) (λ c κs. search needs) returns-5 (λ c. search needs) loop-again (λ c κs. search needs)
+    returns-6 finished-requires returns-7)

@@ -6,8 +6,7 @@ use Rattle.in_place.proofs.distinct.distinct.Tie as tie
 
 returns : tie.Need-returns
 unfolding distinctHold
-returns c =
-    rw (c .before .ids-differ .ensures, c .objects-differ .ensures)
+returns c = rw (c .before .ids-differ .ensures, c .objects-differ .ensures)
 
 pub distinct-spec : {M : Type 1} → statement M
 distinct-spec = tie.close (tie.spec (λ c κs. search needs) (λ c κs. search needs) returns)

@@ -29,10 +29,6 @@ abbrev μ-loop : tie.MeasureT-loop
 μ-loop s places n list ids₀ i₀ ids i =
     n - i
 
-loop-holds : tie.Need-loop-holds Inv-loop μ-loop
-loop-holds c =
-    (search needs, refl)
-
 add-u16-at : tie.Need-add-u16-at Inv-loop μ-loop
 add-u16-at c =
     let p = c .before .before in
@@ -70,4 +66,7 @@ returns c =
     (length-along (unseen eqb) seenWith _ (idsOf cs) ∙ length-map cs idOf ∙ l)
 
 pub ids-differ-spec : {M : Type 1} → statement M
-ids-differ-spec = tie.close (tie.spec Inv-loop μ-loop loop-holds (λ c. search needs) (λ c. search needs) add-u16-at u16-at-requires (λ c. search needs) (λ c. search needs) (λ c. search needs) (λ c. search needs) loop-again id-fault-requires returns)
+ids-differ-spec =
+    tie.close (tie.spec Inv-loop μ-loop (λ c. (search needs, refl)) (λ c. search needs) (λ c. search needs) add-u16-at
+    u16-at-requires (λ c. search needs) (λ c. search needs) (λ c. search needs) (λ c. search needs) loop-again
+    id-fault-requires returns)

@@ -20,4 +20,6 @@ returns c =
     sym (fresh-few sameObject os h)
 
 pub objects-differ-spec : {M : Type 1} → statement M
-objects-differ-spec = tie.close (tie.spec (λ c κs. search needs) returns (λ c κs. search needs) (λ c. search needs) (λ c κs. search needs) (λ c. search needs))
+objects-differ-spec =
+    tie.close (tie.spec (λ c κs. search needs) returns (λ c κs. search needs) (λ c. search needs) (λ c κs. search needs)
+    (λ c. search needs))

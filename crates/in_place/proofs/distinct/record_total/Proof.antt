@@ -22,10 +22,6 @@ abbrev μ-loop : tie.MeasureT-loop
 μ-loop s places n list total₀ i₀ total i =
     n - i
 
-loop-holds : tie.Need-loop-holds Inv-loop μ-loop
-loop-holds c =
-    (search needs, search needs, omega arith)
-
 record-count-requires : tie.Need-record-count-requires Inv-loop μ-loop
 record-count-requires c κs =
     let p = c .before .before in
@@ -47,4 +43,7 @@ returns c =
     (omega arith, omega arith)
 
 pub record-total-spec : {M : Type 1} → statement M
-record-total-spec = tie.close (tie.spec Inv-loop μ-loop loop-holds (λ c. search needs) (λ c. search needs) record-count-requires (λ c. search needs) (λ c. search needs) (λ c. search needs) loop-again returns)
+record-total-spec =
+    tie.close (tie.spec Inv-loop μ-loop (λ c. (search needs, search needs, omega arith)) (λ c. search needs)
+    (λ c. search needs) record-count-requires (λ c. search needs) (λ c. search needs) (λ c. search needs) loop-again
+    returns)

@@ -44,4 +44,6 @@ returns-3 c =
     (c .is-target .ensures ∙ ap (λ (y : ℤ). isTarget y (t .result)) e ∙ ap (isTarget z) (t .ensures))
 
 pub first-target-ok-spec : {M : Type 1} → statement M
-first-target-ok-spec = tie.close (tie.spec (λ c. search needs) (λ c κs. search needs) (λ c κs. search needs) returns returns-2 (λ c. search needs) (λ c κs. search needs) (λ c κs. search needs) returns-3)
+first-target-ok-spec =
+    tie.close (tie.spec (λ c. search needs) (λ c κs. search needs) (λ c κs. search needs) returns returns-2
+    (λ c. search needs) (λ c κs. search needs) (λ c κs. search needs) returns-3)

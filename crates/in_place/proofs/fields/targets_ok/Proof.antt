@@ -22,10 +22,6 @@ abbrev μ-loop : tie.MeasureT-loop
 μ-loop s at n i₀ i =
     n - i
 
-loop-holds : tie.Need-loop-holds Inv-loop μ-loop
-loop-holds c =
-    (search needs, rw (sub-zero, add-zero))
-
 returns : tie.Need-returns Inv-loop μ-loop
 unfolding objectAt
 returns c =
@@ -49,4 +45,7 @@ returns-2 c =
     sym (p .loop .inv .1 ∙ rw (objects-at-done (now (a .s)) (a .at) (a .n) (p .loop .i) (c .loop-test .left)))
 
 pub targets-ok-spec : {M : Type 1} → statement M
-targets-ok-spec = tie.close (tie.spec Inv-loop μ-loop loop-holds (λ c. search needs) (λ c. search needs) (λ c. search needs) (λ c κs. search needs) returns (λ c. search needs) (λ c. search needs) loop-again returns-2)
+targets-ok-spec =
+    tie.close (tie.spec Inv-loop μ-loop (λ c. (search needs, rw (sub-zero, add-zero))) (λ c. search needs)
+    (λ c. search needs) (λ c. search needs) (λ c κs. search needs) returns (λ c. search needs) (λ c. search needs)
+    loop-again returns-2)

@@ -25,4 +25,6 @@ returns-2 c =
     c .neighbour-at .ensures ∙ sym (last-before (now (a .s)) (now (a .places)) (a .i) (omega arith) (omega arith))
 
 pub before-spec : {M : Type 1} → statement M
-before-spec = tie.close (tie.spec returns (λ c. search needs) (λ c. search needs) (λ c. search needs) neighbour-at-requires returns-2)
+before-spec =
+    tie.close (tie.spec returns (λ c. search needs) (λ c. search needs) (λ c. search needs) neighbour-at-requires
+    returns-2)

@@ -6,8 +6,7 @@ use Rattle.in_place.proofs.neighbours.joins.Tie as tie
 
 returns : tie.Need-returns
 unfolding joins
-returns c =
-    rw (c .before .follows-ok .ensures, c .empty-ok .ensures)
+returns c = rw (c .before .follows-ok .ensures, c .empty-ok .ensures)
 
 pub joins-spec : {M : Type 1} → statement M
 joins-spec = tie.close (tie.spec (λ c κs. search needs) (λ c κs. search needs) returns)

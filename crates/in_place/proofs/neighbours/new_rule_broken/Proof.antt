@@ -95,4 +95,7 @@ returns-3 c =
     sym (done (c .before .before .before) ∙ rw f (ap (λ (b : Bool). cond {A = ℕ} b 0 7) (c .if2 .left)))
 
 pub new-rule-broken-spec : {M : Type 1} → statement M
-new-rule-broken-spec = tie.close (tie.spec Inv-loop μ-loop before-requires loop-holds (λ c. search needs) (λ c. search needs) neighbour-at-requires fields-ok-requires (λ c κs. search needs) (λ c. search needs) (λ c. search needs) loop-again returns returns-2 returns-3)
+new-rule-broken-spec =
+    tie.close (tie.spec Inv-loop μ-loop before-requires loop-holds (λ c. search needs) (λ c. search needs)
+    neighbour-at-requires fields-ok-requires (λ c κs. search needs) (λ c. search needs) (λ c. search needs) loop-again
+    returns returns-2 returns-3)

@@ -71,4 +71,7 @@ returns-2 c =
     (p .loop .inv .1 ∙ row-hit eqb (a .t1) (q .scan .i) (p .loop .j) _ 0 (c .before .loop-test .taken) (omega arith) (eq-eqb _ _ (c .if1 .taken))))
 
 pub id-fault-spec : {M : Type 1} → statement M
-id-fault-spec = tie.close (tie.spec Inv-loop μ-loop Inv-scan μ-scan scan-holds (λ c. search needs) (λ c. search needs) loop-holds (λ c. search needs) (λ c. search needs) (λ c. search needs) (λ c. search needs) loop-again (λ c. search needs) (λ c. search needs) scan-again returns returns-2)
+id-fault-spec =
+    tie.close (tie.spec Inv-loop μ-loop Inv-scan μ-scan scan-holds (λ c. search needs) (λ c. search needs) loop-holds
+    (λ c. search needs) (λ c. search needs) (λ c. search needs) (λ c. search needs) loop-again (λ c. search needs)
+    (λ c. search needs) scan-again returns returns-2)

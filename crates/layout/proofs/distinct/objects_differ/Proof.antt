@@ -62,4 +62,7 @@ returns c =
     failed-every (objectTests (view l)) (c .before .object-repeat .result) (two .result) r (sym n)
 
 pub objects-differ-spec : {M : Type 1} → statement M
-objects-differ-spec = tie.close (tie.spec (λ c. search needs) (λ c. search needs) (λ c κs. search needs) (λ c. search needs) (λ c. search needs) (λ c κs. search needs) (λ c. search needs) (λ c. search needs) (λ c. search needs) object-repeat-requires returns)
+objects-differ-spec =
+    tie.close (tie.spec (λ c. search needs) (λ c. search needs) (λ c κs. search needs) (λ c. search needs)
+    (λ c. search needs) (λ c κs. search needs) (λ c. search needs) (λ c. search needs) (λ c. search needs)
+    object-repeat-requires returns)

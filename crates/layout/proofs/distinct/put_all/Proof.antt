@@ -28,10 +28,8 @@ abbrev μ-loop : tie.MeasureT-loop
 -- `stored` is the state after the records of the turn's component were stored, `turn` that at the turn's start.
 loop-again : tie.Need-loop-again Inv-loop μ-loop
 loop-again c =
-    let stored = c .before .before .before .before in
-    let turn = stored .before .before .before .before in
-    let q = stored .put-records in
-    let p = turn .before in
+    let stored = c .before .before .before .before in let turn = stored .before .before .before .before in
+    let q = stored .put-records in let p = turn .before in
     let s = p .before .before .before in
     let l = s .args .t1 .components in
     let h : length l ≡ 16 = unmapped l _ (s .good .0 .1 .1 .1 .1 .0 .1 .0 .1) in
@@ -60,4 +58,7 @@ returns c =
     )
 
 pub put-all-spec : {M : Type 1} → statement M
-put-all-spec = tie.close (tie.spec Inv-loop μ-loop (λ c. search needs) (λ c. search needs) (λ c. search needs) (λ c κs. search needs) (λ c. search needs) (λ c. search needs) loop-again (λ c. search needs) (λ c. search needs) returns)
+put-all-spec =
+    tie.close (tie.spec Inv-loop μ-loop (λ c. search needs) (λ c. search needs) (λ c. search needs)
+    (λ c κs. search needs) (λ c. search needs) (λ c. search needs) loop-again (λ c. search needs) (λ c. search needs)
+    returns)

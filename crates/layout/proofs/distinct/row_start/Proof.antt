@@ -19,9 +19,6 @@ Inv-loop keys i key alike₀ j₀ alike j = (j ≤ i) × (elem eqb key (take i k
 abbrev μ-loop : tie.MeasureT-loop
 μ-loop keys i key alike₀ j₀ alike j = i - j
 
-loop-holds : tie.Need-loop-holds Inv-loop μ-loop
-loop-holds c = (search needs, refl)
-
 loop-again : tie.Need-loop-again Inv-loop μ-loop
 loop-again c =
     let p = c .before .before in
@@ -47,17 +44,5 @@ returns-2 c =
 
 pub row-start-spec : {M : Type 1} → statement M
 row-start-spec =
-    tie.close
-    (tie.spec
-    Inv-loop
-    μ-loop
-    (λ c. search needs)
-    (λ c. search needs)
-    loop-holds
-    (λ c. search needs)
-    (λ c. search needs)
-    (λ c. search needs)
-    (λ c. search needs)
-    loop-again
-    returns
-    returns-2)
+    tie.close (tie.spec Inv-loop μ-loop (λ c. search needs) (λ c. search needs) (λ c. (search needs, refl))
+    (λ c. search needs) (λ c. search needs) (λ c. search needs) (λ c. search needs) loop-again returns returns-2)

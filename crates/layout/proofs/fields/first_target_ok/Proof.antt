@@ -34,4 +34,6 @@ returns-3 c =
     rw (c .before .before .if1 .left) (c .is-minus-one .ensures ∙ ap isMinusOne e)
 
 pub first-target-ok-spec : {M : Type 1} → statement M
-first-target-ok-spec = tie.close (tie.spec (λ c κs. search needs) returns (λ c. search needs) (λ c κs. search needs) returns-2 (λ c κs. search needs) returns-3)
+first-target-ok-spec =
+    tie.close (tie.spec (λ c κs. search needs) returns (λ c. search needs) (λ c κs. search needs) returns-2
+    (λ c κs. search needs) returns-3)

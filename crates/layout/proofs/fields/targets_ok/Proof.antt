@@ -19,9 +19,6 @@ Inv-loop n objects i₀ i = (i ≤ n) × (every (each targetOk (take n objects))
 abbrev μ-loop : tie.MeasureT-loop
 μ-loop n objects i₀ i = n - i
 
-loop-holds : tie.Need-loop-holds Inv-loop μ-loop
-loop-holds c = (search needs, refl)
-
 returns : tie.Need-returns Inv-loop μ-loop
 returns c =
     let l = c .before .before .before .before in
@@ -41,4 +38,6 @@ returns-2 c =
     sym (l .loop .inv .1 ∙ rw (slice-done (a .t1) (a .n) (l .loop .i) (c .loop-test .left)))
 
 pub targets-ok-spec : {M : Type 1} → statement M
-targets-ok-spec = tie.close (tie.spec Inv-loop μ-loop loop-holds (λ c. search needs) (λ c. search needs) returns (λ c. search needs) (λ c. search needs) loop-again returns-2)
+targets-ok-spec =
+    tie.close (tie.spec Inv-loop μ-loop (λ c. (search needs, refl)) (λ c. search needs) (λ c. search needs) returns
+    (λ c. search needs) (λ c. search needs) loop-again returns-2)

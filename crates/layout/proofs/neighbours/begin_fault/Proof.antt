@@ -50,4 +50,6 @@ returns-2 c =
     sym (c .before .loop .inv .1 ∙ along-done (a .t1) (a .n) (c .before .loop .i) beginsAt endOf (c .before .loop .at) (c .loop-test .left))
 
 pub begin-fault-spec : {M : Type 1} → statement M
-begin-fault-spec = tie.close (tie.spec Inv-loop μ-loop (λ c κs. search needs) loop-holds (λ c. search needs) (λ c. search needs) returns (λ c. search needs) (λ c. search needs) loop-again returns-2)
+begin-fault-spec =
+    tie.close (tie.spec Inv-loop μ-loop (λ c κs. search needs) loop-holds (λ c. search needs) (λ c. search needs)
+    returns (λ c. search needs) (λ c. search needs) loop-again returns-2)

@@ -52,4 +52,7 @@ returns-2 c =
     sym (c .before .loop .inv .1 ∙ empty-end (a .t1) (a .n) (c .before .loop .i) noNeighbour (omega arith) (omega arith) (omega arith))
 
 pub empty-fault-spec : {M : Type 1} → statement M
-empty-fault-spec = tie.close (tie.spec Inv-loop μ-loop loop-holds (λ c. search needs) (λ c. search needs) (λ c. search needs) (λ c. search needs) (λ c. search needs) (λ c. search needs) (λ c κs. search needs) returns (λ c. search needs) loop-again returns-2)
+empty-fault-spec =
+    tie.close (tie.spec Inv-loop μ-loop loop-holds (λ c. search needs) (λ c. search needs) (λ c. search needs)
+    (λ c. search needs) (λ c. search needs) (λ c. search needs) (λ c κs. search needs) returns (λ c. search needs)
+    loop-again returns-2)

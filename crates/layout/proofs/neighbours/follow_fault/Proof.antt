@@ -51,4 +51,6 @@ returns-2 c =
     sym (c .before .loop .inv .1 ∙ along-done (a .t1) (a .n) (c .before .loop .i) followsOk mayFollow (c .before .loop .may) (c .loop-test .left))
 
 pub follow-fault-spec : {M : Type 1} → statement M
-follow-fault-spec = tie.close (tie.spec Inv-loop μ-loop (λ c κs. search needs) loop-holds (λ c. search needs) (λ c. search needs) (λ c κs. search needs) returns (λ c. search needs) (λ c. search needs) loop-again returns-2)
+follow-fault-spec =
+    tie.close (tie.spec Inv-loop μ-loop (λ c κs. search needs) loop-holds (λ c. search needs) (λ c. search needs)
+    (λ c κs. search needs) returns (λ c. search needs) (λ c. search needs) loop-again returns-2)

@@ -29,4 +29,6 @@ returns-4 c =
     ∙ rw (c .before .before .before .if2 .left, ne-eqb _ _ (c .if3 .left)))
 
 pub last-fault-spec : {M : Type 1} → statement M
-last-fault-spec = tie.close (tie.spec returns returns-2 (λ c. search needs) (λ c. search needs) (λ c. search needs) returns-3 returns-4)
+last-fault-spec =
+    tie.close (tie.spec returns returns-2 (λ c. search needs) (λ c. search needs) (λ c. search needs) returns-3
+    returns-4)

@@ -40,4 +40,6 @@ returns c =
     )
 
 pub neighbours-hold-spec : {M : Type 1} → statement M
-neighbours-hold-spec = tie.close (tie.spec begin-fault-requires follow-fault-requires (λ c κs. search needs) empty-fault-requires (λ c κs. search needs) returns)
+neighbours-hold-spec =
+    tie.close (tie.spec begin-fault-requires follow-fault-requires (λ c κs. search needs) empty-fault-requires
+    (λ c κs. search needs) returns)

@@ -46,20 +46,20 @@ initWith objects c =
 abbrev pub madeInit : List Object → Component → Component
 madeInit os c = initWith (packObjects os) c
 
--- The component that repeats c, with a new id, before targets are chosen for it.
+-- The component that repeats d, with a new id, before targets are chosen for it.
 abbrev pub repeatBase : ℕ → ℕ → Component → Component
-repeatBase new begin c =
+repeatBase new begin d =
     record {
-      init = c .init;
+      init = d .init;
       extension = false;
       id = new;
-      «stripe_count» = c .«stripe_count»;
-      «stripe_size» = c .«stripe_size»;
-      «first_target» = c .«first_target»;
+      «stripe_count» = d .«stripe_count»;
+      «stripe_size» = d .«stripe_size»;
+      «first_target» = d .«first_target»;
       begin = begin;
-      end = c .end;
+      end = d .end;
       «extension_size» = 0;
-      objects = c .objects;
+      objects = d .objects;
     }
 
 -- "A new init component .. with C's stripe size and count, on newly chosen targets", with a new id and an extent of its own.

@@ -1,0 +1,2 @@
+pub mod LentRecords
+pub mod Local

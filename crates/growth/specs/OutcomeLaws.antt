@@ -40,7 +40,7 @@ module _ (p : Plan) (cs : List Component) where
   unfolding planSays
   plan-changes e f = ap lacksBy e ∙ ap changesBy f
 
--- Of three tests in a row, the first that passes gives its number or its outcome; `other` stands for none.
+-- Of three tests in a row, the first that passes gives its number or its outcome; `other` is for none of them.
 module _ (f : ℕ → Outcome) (other : Outcome) where
   refused-by : (a b c : Bool) (n : ℕ) → n ≡ cond a 17 (cond b 18 (cond c 19 0)) → (n ≡ 0 → ⊥)
       → cond a (f 17) (cond b (f 18) (cond c (f 19) other)) ≡ f n

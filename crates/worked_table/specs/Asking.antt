@@ -75,11 +75,11 @@ replyOf l (cut offset bytes) =
 replyOf l (grow k) = grown (growOf l k)
 
 -- The layout after a row: growth may change it, the other calls leave it as it is.
-abbrev pub layoutBehind : Layout → Asked → Layout
-layoutBehind l (lookup b) = l
-layoutBehind l (back id stripe byte) = l
-layoutBehind l (cut offset bytes) = l
-layoutBehind l (grow k) = afterCall l k
+abbrev pub layoutAfter : Layout → Asked → Layout
+layoutAfter l (lookup b) = l
+layoutAfter l (back id stripe byte) = l
+layoutAfter l (cut offset bytes) = l
+layoutAfter l (grow k) = afterCall l k
 
 -- The answers to rows, asked one after another, where `l` is the layout after the row before them. Each example is computed by
 -- this definition, so its second line names all that is to be computed.
@@ -90,8 +90,8 @@ unfolding lookupOf lookupRefusal homeOf homeIn hasHome backOf backRefusal byteOf
     valid ruleBroken fieldsOk kindOk extensionOk stripedOk nonzeroMultiple firstTargetOk isTarget isMinusOne
     neighboursHold distinctHold sameObject packObjects packComponents initOf bareOf extensionOf layoutA layoutB
 repliesFrom l [] = []
-repliesFrom l (of m a ∷ rows) = replyOf m a ∷ repliesFrom (layoutBehind m a) rows
-repliesFrom l (next a ∷ rows) = replyOf l a ∷ repliesFrom (layoutBehind l a) rows
+repliesFrom l (of m a ∷ rows) = replyOf m a ∷ repliesFrom (layoutAfter m a) rows
+repliesFrom l (next a ∷ rows) = replyOf l a ∷ repliesFrom (layoutAfter l a) rows
 
 -- The answers to the rows of a table, of which the first names its layout.
 abbrev pub replies : List Row → List Reply

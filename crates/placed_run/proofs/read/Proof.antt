@@ -26,5 +26,4 @@ returns-2 c =
     (c .end-refusal .result) (c .end-refusal .ensures [])
 
 pub read-spec : {M : Type 1} → statement M
-read-spec =
-    tie.close (tie.spec (λ c κs. search needs) distinct-requires returns (λ c κs. search needs) returns-2)
+read-spec = tie.close (tie.spec (λ c κs. search needs) distinct-requires returns (λ c κs. search needs) returns-2)

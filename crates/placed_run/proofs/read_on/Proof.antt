@@ -57,5 +57,4 @@ returns c =
     (sym (p .loop .inv .1 ∙ turn-end s (placedOf (p .loop .p) (p .loop .places)) (c .if1 .left)), p .loop .inv .0)
 
 pub read-on-spec : {M : Type 1} → statement M
-read-on-spec =
-    tie.close (tie.spec Inv-loop μ-loop loop-holds (λ c κs. search needs) loop-less loop-again returns)
+read-on-spec = tie.close (tie.spec Inv-loop μ-loop loop-holds (λ c κs. search needs) loop-less loop-again returns)

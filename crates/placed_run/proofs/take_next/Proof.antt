@@ -86,24 +86,7 @@ returns-6 c =
 
 pub take-next-spec : {M : Type 1} → statement M
 take-next-spec =
-    tie.close
-    (tie.spec
-    (λ c κs. search needs)
-    returns
-    (λ c κs. search needs)
-    (λ c κs. search needs)
-    returns-2
-    head-next-requires
-    (λ c κs. search needs)
-    (λ c κs. search needs)
-    returns-3
-    (λ c. search needs)
-    (λ c. search needs)
-    (λ c κs. search needs)
-    returns-4
-    new-rule-broken-requires
-    (λ c κs. search needs)
-    returns-5
-    add-t8
-    (λ c. search needs)
-    returns-6)
+    tie.close (tie.spec (λ c κs. search needs) returns (λ c κs. search needs) (λ c κs. search needs) returns-2
+    head-next-requires (λ c κs. search needs) (λ c κs. search needs) returns-3 (λ c. search needs) (λ c. search needs)
+    (λ c κs. search needs) returns-4 new-rule-broken-requires (λ c κs. search needs) returns-5 add-t8
+    (λ c. search needs) returns-6)

@@ -9,4 +9,5 @@ unfolding objectAt
 returns c = cc
 
 pub object-at-spec : {M : Type 1} → statement M
-object-at-spec = tie.close (tie.spec (λ c. search needs) (λ c. search needs) (λ c. search needs) (λ c. search needs) returns)
+object-at-spec =
+    tie.close (tie.spec (λ c. search needs) (λ c. search needs) (λ c. search needs) (λ c. search needs) returns)

@@ -21,9 +21,6 @@ Inv-loop s at n objects₀ i₀ objects i =
 abbrev μ-loop : tie.MeasureT-loop
 μ-loop s at n objects₀ i₀ objects i = n - i
 
-loop-holds : tie.Need-loop-holds Inv-loop μ-loop
-loop-holds c = (search needs, rw (sub-zero, add-zero))
-
 loop-again : tie.Need-loop-again Inv-loop μ-loop
 loop-again c =
     let p = c .before .before in
@@ -39,4 +36,7 @@ returns c =
     sym (p .loop .inv .1 ∙ rw (objects-at-done (now (a .s)) (a .at) (a .n) (p .loop .i) (c .loop-test .left)))
 
 pub objects-at-spec : {M : Type 1} → statement M
-objects-at-spec = tie.close (tie.spec Inv-loop μ-loop loop-holds (λ c. search needs) (λ c. search needs) (λ c κs. search needs) (λ c. search needs) (λ c. search needs) (λ c. search needs) (λ c. search needs) loop-again returns)
+objects-at-spec =
+    tie.close (tie.spec Inv-loop μ-loop (λ c. (search needs, rw (sub-zero, add-zero))) (λ c. search needs)
+    (λ c. search needs) (λ c κs. search needs) (λ c. search needs) (λ c. search needs) (λ c. search needs)
+    (λ c. search needs) loop-again returns)

@@ -9,4 +9,5 @@ unfolding componentMarks
 returns c = rw (← c .before .before .u16-at .ensures, ← c .only-first-two .ensures, ← c .before .u16-at2 .ensures)
 
 pub component-marks-spec : {M : Type 1} → statement M
-component-marks-spec = tie.close (tie.spec (λ c. search needs) (λ c. search needs) (λ c. search needs) (λ c. search needs) returns)
+component-marks-spec =
+    tie.close (tie.spec (λ c. search needs) (λ c. search needs) (λ c. search needs) (λ c. search needs) returns)

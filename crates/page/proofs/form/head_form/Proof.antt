@@ -17,4 +17,6 @@ returns c =
     )
 
 pub head-form-spec : {M : Type 1} → statement M
-head-form-spec = tie.close (tie.spec (λ c. search needs) (λ c. search needs) (λ c. search needs) (λ c. search needs) (λ c. search needs) returns)
+head-form-spec =
+    tie.close (tie.spec (λ c. search needs) (λ c. search needs) (λ c. search needs) (λ c. search needs)
+    (λ c. search needs) returns)

@@ -17,9 +17,6 @@ Inv-loop s at n i₀ i = (i ≤ n) × (objectsForm n s at ≡ objectsForm (n - i
 abbrev μ-loop : tie.MeasureT-loop
 μ-loop s at n i₀ i = n - i
 
-loop-holds : tie.Need-loop-holds Inv-loop μ-loop
-loop-holds c = (search needs, rw (sub-zero, add-zero))
-
 returns : tie.Need-returns Inv-loop μ-loop
 returns c =
     let p = c .before .before .before in
@@ -43,4 +40,6 @@ returns-2 c =
     sym (p .loop .inv .1 ∙ objects-form-done (now (a .s)) (a .at) (a .n) (p .loop .i) (c .loop-test .left))
 
 pub objects-form-spec : {M : Type 1} → statement M
-objects-form-spec = tie.close (tie.spec Inv-loop μ-loop loop-holds (λ c. search needs) (λ c. search needs) (λ c κs. search needs) returns (λ c. search needs) (λ c. search needs) loop-again returns-2)
+objects-form-spec =
+    tie.close (tie.spec Inv-loop μ-loop (λ c. (search needs, rw (sub-zero, add-zero))) (λ c. search needs)
+    (λ c. search needs) (λ c κs. search needs) returns (λ c. search needs) (λ c. search needs) loop-again returns-2)

@@ -43,7 +43,7 @@ pub u64-length : (n : ℕ) → length (u64Bytes n) ≡ 8
 unfolding u64Bytes
 u64-length n = length-enc 3 n
 
--- Where two lists have the same bytes, they have the same number.
+-- If two lists have the same bytes, they have the same number.
 pub le-same : (k : ℕ) (s t : List ℕ) (i j : ℕ) → ((d : ℕ) → d < 2 ^ k → getD s (i + d) 0 ≡ getD t (j + d) 0)
     → le k s i ≡ le k t j
 le-same zero s t i j h = rw (add-zero i, add-zero j) at (h 0 (omega arith))
@@ -54,11 +54,11 @@ le-same (suc k) s t i j h =
     le-same k s t (i + 2 ^ k) (j + 2 ^ k) (λ d b. rw (add-assoc i, add-assoc j) (h (2 ^ k + d) (omega arith))) in
     rw (lower, upper)
 
--- A number that lies behind other bytes.
+-- A number that is after other bytes.
 pub le-past : (k : ℕ) (p s : List ℕ) (j : ℕ) → le k (p ++ s) (length p + j) ≡ le k s j
 le-past k p s j = le-same k (p ++ s) s (length p + j) j (λ d b. rw add-assoc (getD-append-add p s (j + d) 0))
 
--- A number in two, four and eight bytes that lies behind other bytes.
+-- A number in two, four and eight bytes that is after other bytes.
 pub u16-past : (p s : List ℕ) (j : ℕ) → u16At (p ++ s) (length p + j) ≡ u16At s j
 unfolding u16At
 u16-past p s j = le-past 1 p s j
@@ -71,11 +71,11 @@ pub u64-past : (p s : List ℕ) (j : ℕ) → u64At (p ++ s) (length p + j) ≡ 
 unfolding u64At
 u64-past p s j = le-past 3 p s j
 
--- The bytes behind a number do not matter.
+-- The bytes after a number do not matter.
 pub le-before : (k : ℕ) (s t : List ℕ) (at : ℕ) → at + 2 ^ k ≤ length s → le k (s ++ t) at ≡ le k s at
 le-before k s t at h = le-same k (s ++ t) s at at (λ d b. List·getD-append s t 0 (at + d) (omega arith))
 
--- The bytes behind a number in two, four and eight bytes do not matter.
+-- The bytes after a number in two, four and eight bytes do not matter.
 pub u16-before : (s t : List ℕ) (at : ℕ) → at + 2 ≤ length s → u16At (s ++ t) at ≡ u16At s at
 unfolding u16At
 u16-before s t at h = le-before 1 s t at h
@@ -105,11 +105,11 @@ pub u64-take : (n : ℕ) (s : List ℕ) (at : ℕ) → at + 8 ≤ n → u64At (t
 unfolding u64At
 u64-take n s at h = le-take 3 n s at h
 
--- A number that lies behind the first n bytes.
+-- A number that is after the first n bytes.
 pub le-drop : (k n : ℕ) (s : List ℕ) (at : ℕ) → le k (drop n s) at ≡ le k s (n + at)
 le-drop k n s at = le-same k (drop n s) s at (n + at) (λ d b. rw add-assoc (getD-drop n s (at + d) 0))
 
--- A number in two, four and eight bytes that lies behind the first n bytes.
+-- A number in two, four and eight bytes that is after the first n bytes.
 pub u16-drop : (n : ℕ) (s : List ℕ) (at : ℕ) → u16At (drop n s) at ≡ u16At s (n + at)
 unfolding u16At
 u16-drop n s at = le-drop 1 n s at
@@ -196,7 +196,7 @@ pub u64-again : (s : List ℕ) (at : ℕ) → AreBytes s → at + 8 ≤ length s
 unfolding u64At u64Bytes
 u64-again s at h r = enc-le 3 s at h r
 
--- A signed number of 32 bits is the one that its bits stand for.
+-- A signed number of 32 bits is the one that its bits mean.
 pub bits-signed : (z : ℤ) → SFits w32 z → i32Of (bitsOf z) ≡ z
 unfolding i32Of bitsOf
 bits-signed z f = toZ-ofZ f
@@ -206,7 +206,7 @@ pub bits-below : (z : ℤ) → SFits w32 z → bitsOf z < 2 ^ 32
 unfolding bitsOf
 bits-below z f = fits-ofZ f .fits
 
--- The bits of the signed number that 32 bits stand for are those bits.
+-- The bits of the signed number that 32 bits mean are those bits.
 pub signed-bits : (n : ℕ) → n < 2 ^ 32 → bitsOf (i32Of n) ≡ n
 unfolding i32Of bitsOf
 signed-bits n h = ofZ-toZ {w = w32} (record { fits = h })
@@ -218,14 +218,14 @@ bytes-take (suc n) [] h i = omega arith
 bytes-take (suc n) (b ∷ s) h zero = h 0
 bytes-take (suc n) (b ∷ s) h (suc i) = bytes-take n s (λ j. h (suc j)) i
 
--- The elements behind the first n of a list of bytes are bytes.
+-- The elements after the first n of a list of bytes are bytes.
 pub bytes-drop : (n : ℕ) (s : List ℕ) → AreBytes s → AreBytes (drop n s)
 bytes-drop n s h i = rw (getD-drop n s i 0) (h (n + i))
 
--- Of two lists that are bytes one behind the other, the first is bytes.
+-- Of two lists that are bytes one after the other, the first is bytes.
 pub bytes-append-left : (p s : List ℕ) → AreBytes (p ++ s) → AreBytes p
 bytes-append-left p s h = rw take-append-seam at (bytes-take (length p) (p ++ s) h)
 
--- Of two lists that are bytes one behind the other, the second is bytes.
+-- Of two lists that are bytes one after the other, the second is bytes.
 pub bytes-append-right : (p s : List ℕ) → AreBytes (p ++ s) → AreBytes s
 bytes-append-right p s h i = rw (getD-append-add p s i 0) at (h (length p + i))

@@ -21,7 +21,7 @@ head-count s = refl
 pub count-is : (s : List ℕ) (h : Head) → h ≡ headOf s → h .count ≡ length (componentsOf s)
 count-is s h e = ap (λ (x : Head). x .count) e ∙ head-count s ∙ sym (length-components s)
 
--- The layout that was built has the page's components behind its own.
+-- The layout that was built has the page's components after its own.
 pub next-is : (s places : List ℕ) (h : Head) (l next : Layout) → Walked s places → h ≡ headOf s
     → next ≡ joined (h .generation) l (map (componentAt s) (take (h .count) places))
     → next ≡ joined (headOf s .generation) l (componentsOf s)

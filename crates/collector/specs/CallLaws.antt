@@ -34,7 +34,7 @@ module _ (c : Collector) (s : List ℕ) where
   pub answer-number : numberOf (pageIn c s .answer) ≡ pageRefusal c s
   answer-number = settled-number (pageRefusal c s) c (headOf s) (componentsOf s)
 
-  -- A page that is taken answers by its own flag, "more wanted" or "complete", and its components stand behind those
+  -- A page that is taken answers by its own flag, "more wanted" or "complete", and its components are after those
   -- gathered.
   pub taken-answer : pageRefusal c s ≡ 0 → pageIn c s .answer ≡ cond (headOf s .more) More Complete
   taken-answer e = settled-taken (pageRefusal c s) c (headOf s) (componentsOf s) e .0

@@ -24,7 +24,7 @@ countsAgree pages complete components =
     Bool·beq (eqb pages 0) (eqb components 0) && not (complete && eqb pages 0) && leb pages components
 
 -- Refusal 1 does not apply to the collector: it has at most 16 components, as many as its count says; its numbers
--- agree; and the gathered components break no rule, as far as it can be asked: where the collector is not complete,
+-- agree; and the gathered components break no rule, as far as it can be asked: if the collector is not complete,
 -- pages are outstanding.
 unfoldable pub collectorOk : Collector → Bool
 collectorOk c =

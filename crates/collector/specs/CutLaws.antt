@@ -84,7 +84,7 @@ listed-next-at s at n e h k l =
     listed-next (drop at s) (omega arith) (omega arith) (omega arith) (omega arith)
     ∙ rw (m, drop-drop 2 at s, drop-drop (2 + n) at s, sum)
 
--- The host's next page, where some bytes are left.
+-- The host's next page, if some bytes are left.
 module _ (s : List ℕ) (some : 0 < length s) where
   -- If the bytes do not begin with a page of good form, the reading ends with 3.
   pub host-fault : (c : Collector) → Held c → c .complete ≡ false → formBy (min 512 (length s)) s ≡ false

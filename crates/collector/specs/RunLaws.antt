@@ -1,4 +1,4 @@
--- Laws of reading a run, for a collector that keeps the rules: what the reading is by what stands next.
+-- Laws of reading a run, for a collector that keeps the rules: what the reading is by what is next.
 use Prim.Native.Nat.{ℕ, zero, suc, _+_, _-_, _≤_, _<_}
 use mathlib.Core.Path.{_≡_, refl, sym, ap, subst, _∙_}
 use mathlib.Core.List.{List, [], _∷_}
@@ -81,7 +81,7 @@ module _ (c : Collector) (h : Held c) where
     pub read-closed : c .complete ≡ true → readFrom cut c s ≡ closed c s
     read-closed e = rw (left, e)
 
-    -- Not complete: by what stands next.
+    -- Not complete: by what is next.
     module _ (e : c .complete ≡ false) where
       read-next : readFrom cut c s ≡ following (readOn cut (16 - c .pages)) c (cut s)
       read-next = rw (left, e)
@@ -134,12 +134,12 @@ module _ (cut : List ℕ → Next) where
       (λ e. ap by e ∙ sym (read-closed c h cut s e))
       (λ e. ap by e ∙ on-enough n (read-enough n) c h k (cut s) ∙ sym (read-next c h cut s e))
 
--- Bytes behind the last page.
+-- Bytes after the last page.
 pub closed-more : (c : Collector) (s : List ℕ) → 0 < length s → closed c s ≡ refusedAt 2 (c .pages)
 closed-more c [] h = absurd (omega arith)
 closed-more c (b ∷ rest) h = refl
 
--- No byte behind the last page.
+-- No byte after the last page.
 pub closed-none : (c : Collector) (s : List ℕ) → length s ≡ 0 → closed c s ≡ closed c []
 closed-none c [] h = refl
 closed-none c (b ∷ rest) h = absurd (omega arith)

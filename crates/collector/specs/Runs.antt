@@ -13,7 +13,7 @@ use Rattle.collector.specs.declared.Reading.{Reading}
 use Rattle.collector.specs.Collector.{newCollector, gathered}
 use Rattle.collector.specs.Taking.{numberOf, pageIn}
 
--- What stands next in the bytes: nothing, a page that is not whole, or a whole page and the bytes behind it.
+-- What is next in the bytes: nothing, a page that is not whole, or a whole page and the bytes after it.
 pub data Next : Type 0 where
   ended : Next
   broken : Next
@@ -28,8 +28,8 @@ abbrev pub closed : Collector → List ℕ → Reading
 closed c [] = record { refusal = 0; page = c .pages; layout = packed (c .layout .generation) (gathered c) }
 closed c (b ∷ rest) = refusedAt 2 (c .pages)
 
--- A reading whose collector wants more pages, by what stands next: "Input that ends with pages outstanding gives number
--- 1 with P the pages read"; a page that is not whole gives 3, and one that is refused its number; `on` reads on behind
+-- A reading whose collector wants more pages, by what is next: "Input that ends with pages outstanding gives number
+-- 1 with P the pages read"; a page that is not whole gives 3, and one that is refused its number; `on` reads on after
 -- a page that is taken.
 abbrev pub following : (Collector → List ℕ → Reading) → Collector → Next → Reading
 following on c ended = refusedAt 1 (c .pages)

@@ -54,7 +54,7 @@ sound-facts c e =
       kept = eqb-true (ruleBroken (not (c .complete)) (gathered c)) 0 (p 3);
     }
 
--- Two tests of numbers for 0, where each number is 0 if the other is, are the same test.
+-- If each of two numbers is 0 when the other is, the two tests for 0 are the same.
 zero-alike : (a b : ℕ) → (a ≡ 0 → b ≡ 0) → a ≤ b → Bool·beq (eqb a 0) (eqb b 0) ≡ true
 zero-alike zero b f h = rw (eq-eqb b 0 (f refl))
 zero-alike (suc a) (suc b) f h = rw (ne-eqb (suc a) 0 (λ e. omega arith), ne-eqb (suc b) 0 (λ e. omega arith))
@@ -73,7 +73,7 @@ facts-sound c s =
     let whole = eq-eqb (length (gathered c)) n (s .whole) in
     rw (le-leb n 16 (s .few), same, shut, le-leb (c .pages) n (s .within), whole, s .kept)
 
--- Components behind those of a layout, where its array has room for them.
+-- Components after those of a layout, if its array has room for them.
 pub view-joined : (g : ℕ) (l : Layout) (cs : List Component) → l .count + length cs ≤ length (l .components)
     → view (joined g l cs) ≡ view l ++ cs
 view-joined g l cs h =
@@ -113,7 +113,7 @@ sound-added c h cs l some s e =
       kept = rw (v) (bool-cases (h .more) (λ m. rw m (rw m at (t .2))) (λ m. rw m (rw m at (t .2))));
     }
 
--- Where the collector is not complete, the layout with more components behind the gathered ones is one whose first
+-- If the collector is not complete, the layout with more components after the gathered ones is one whose first
 -- components are known to break no rule with pages outstanding.
 pub kept-joined : (c : Collector) (g : ℕ) (cs : List Component) → length (c .layout .components) ≡ 16 → Sound c
     → c .complete ≡ false → c .layout .count + length cs ≤ 16 → RulesKnown (c .layout .count) (joined g (c .layout) cs)

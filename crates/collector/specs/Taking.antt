@@ -17,7 +17,7 @@ use Rattle.collector.specs.declared.Answer.{Answer}
 use Rattle.collector.specs.declared.Answer.the-variants.{More, Complete, Refused}
 use Rattle.collector.specs.Collector.{gathered, collectorOk}
 
--- The number that an answer stands for: that of the refusal, and 0 where the page was taken.
+-- The number that an answer means: that of the refusal, and 0 if the page was taken.
 unfoldable pub numberOf : Answer → ℕ
 numberOf More = 0
 numberOf Complete = 0
@@ -27,7 +27,7 @@ numberOf (Refused n) = n
 unfoldable pub isNext : ℕ → ℕ → Head → Bool
 isNext pages generation h = eqb (h .number) pages && (eqb pages 0 || eqb (h .generation) generation)
 
--- A layout with components behind its own. What stands behind them in the array stays.
+-- A layout with components after its own. What is after them in the array stays.
 abbrev pub joined : ℕ → Layout → List Component → Layout
 joined g l cs =
     record {
@@ -77,7 +77,7 @@ settled (suc n) c h cs = record { answer = Refused (suc n); collector = c }
 abbrev pub contentIn : Collector → Head → List Component → Taken
 contentIn c h cs = settled (contentRefusal c h cs) c h cs
 
--- What taking a page gives where the collector keeps the rules.
+-- What taking a page gives if the collector keeps the rules.
 abbrev pub openIn : Collector → List ℕ → Taken
 openIn c s = settled (openRefusal c s) c (headOf s) (componentsOf s)
 

@@ -31,20 +31,20 @@ unfolding numberOf
 accepted-number pages true l = refl
 accepted-number pages false l = refl
 
--- The answer stands for the number of the refusal, or for 0.
+-- The answer means the number of the refusal, or 0.
 pub settled-number : (n : ℕ) (c : Collector) (h : Head) (cs : List Component) → numberOf (settled n c h cs .answer) ≡ n
 unfolding settled numberOf
 settled-number zero c h cs = accepted-number (c .pages + 1) (h .more) (joined (h .generation) (c .layout) cs)
 settled-number (suc n) c h cs = refl
 
--- What a page of good form is refused by: 4 where it is not the next,
+-- What a page of good form is refused by: 4 if it is not the next,
 module _ (c : Collector) (h : Head) (cs : List Component) where
   pub refused-4 : isNext (c .pages) (c .layout .generation) h ≡ false → contentRefusal c h cs ≡ 4
   unfolding contentRefusal
   refused-4 e = rw e
 
   module _ (e : isNext (c .pages) (c .layout .generation) h ≡ true) where
-    -- 5 where there would be more than 16 components,
+    -- 5 if there would be more than 16 components,
     pub refused-5 : 16 < c .layout .count + length cs → contentRefusal c h cs ≡ 5
     unfolding contentRefusal
     refused-5 k = rw (e, lt-leb (c .layout .count + length cs) 16 k)
@@ -55,7 +55,7 @@ module _ (c : Collector) (h : Head) (cs : List Component) where
     unfolding contentRefusal
     refused-rule k = rw (e, le-leb (c .layout .count + length cs) 16 k)
 
--- What a page is refused by where the collector keeps the rules: 2 where it is complete, 3 where the bytes are not a
+-- What a page is refused by if the collector keeps the rules: 2 if it is complete, 3 if the bytes are not a
 -- page, and else by what the page says.
 module _ (c : Collector) (s : List ℕ) where
   pub refused-2 : c .complete ≡ true → openRefusal c s ≡ 2
@@ -71,7 +71,7 @@ module _ (c : Collector) (s : List ℕ) where
   unfolding openRefusal
   refused-content e f = rw (e, f)
 
-  -- A page is refused by 1 where the collector breaks the rules, and else by what a collector that keeps them gives.
+  -- A page is refused by 1 if the collector breaks the rules, and else by what a collector that keeps them gives.
   pub refused-1 : collectorOk c ≡ false → pageRefusal c s ≡ 1
   unfolding pageRefusal
   refused-1 e = rw e

@@ -46,7 +46,7 @@ closed-valid : (c : Collector) (s : List ℕ) → Held c → c .complete ≡ tru
 closed-valid c [] h e z = gathered-valid c h e
 closed-valid c (b ∷ rest) h e z = absurd (omega arith)
 
--- and of one whose collector keeps the rules and wants more, where it holds of reading on.
+-- and of one whose collector keeps the rules and wants more, if it holds of reading on.
 following-valid : (on : Collector → List ℕ → Reading) → ((d : Collector) (t : List ℕ) → Held d → Good (on d t))
     → (c : Collector) → Held c → (n : Next) → Good (following on c n)
 following-valid on f c h ended z = absurd (omega arith)

@@ -36,7 +36,7 @@ pub enum Answer {
     Refused(u8),
 }
 
-// What a page call gives: the answer, and the collector afterwards. Where the page was refused, it is the collector
+// What a page call gives: the answer, and the collector afterwards. If the page was refused, it is the collector
 // that was handed in.
 pub struct Taken {
     pub answer: Answer,
@@ -130,7 +130,7 @@ fn accept(pages: usize, more: bool, layout: Layout) -> Taken
     }
 }
 
-// The layout with the components at the first n places of the bytes behind its own, and another generation.
+// The layout with the components at the first n places of the bytes after its own, and another generation.
 fn with_components(l: Layout, generation: u32, s: &[u8], places: [usize; 16], n: usize) -> Layout
     requires { ⌜ (l .count + n ≤ 16) × ((i : ℕ) → i < n → behind (now s) (getD places i 0) ≤ length (now s)) ⌝ }
     ensures { λ r. ⌜ r ≡ joined generation l (map (componentAt (now (s .entry))) (take n places)) ⌝ }
@@ -207,7 +207,7 @@ fn layout_in(c: Collector) -> Layout
     layout::pack(l.generation, l.count, components)
 }
 
-// The layout out of a complete collector. Refused by 1 where the collector breaks the rules, or is not complete.
+// The layout out of a complete collector. Refused by 1 if the collector breaks the rules, or is not complete.
 pub fn layout_of(c: Collector) -> LayoutOut
     ensures { λ r. ⌜ r ≡ layoutOut c ⌝ }
 {

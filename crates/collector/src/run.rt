@@ -20,7 +20,7 @@ fn refused_at(number: u8, page: usize) -> Reading
     }
 }
 
-// The number that an answer stands for, 0 where the page was taken.
+// The number that an answer means, 0 if the page was taken.
 fn number_of(answer: Answer) -> u8
     ensures { λ r. ⌜ r ≡ numberOf answer ⌝ }
 {
@@ -44,7 +44,7 @@ fn finished(c: Collector) -> Reading
     }
 }
 
-// Reads the listing's pages: each stands after its length, a number of two bytes.
+// Reads the listing's pages: each comes after its length, a number of two bytes.
 pub fn read_listed(s: &[u8]) -> Reading
     ensures { λ r. ⌜ r ≡ readRun listedCut (now (s .entry)) ⌝ }
 {

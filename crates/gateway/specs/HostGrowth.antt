@@ -13,7 +13,7 @@ use Rattle.free_table.specs.declared.TargetRecord.{TargetRecord}
 use Rattle.growth_rules.specs.Growing.{Effect, Outcome, growOf}
 use Rattle.gateway.specs.Host.{hostLayout, readingFirst, lentAfter}
 
--- What one or two words that make no whole record stand for: a record whose target is above 65,534, so that the table is bad.
+-- What one or two words that make no whole record are read as: a record whose target is above 65,534, so that the table is bad.
 abbrev pub cutRecord : TargetRecord
 cutRecord = record { target = 65535; free = 0; next = 0 }
 

@@ -1,4 +1,4 @@
--- The rules of the fields, asked of the component at a place: its object records are those that stand behind it.
+-- The rules of the fields, asked of the component at a place: its object records are those that are after it.
 use Prim.Native.Nat.{ℕ, _+_, min}
 use mathlib.Core.Path.{_≡_}
 use mathlib.Core.List.{List}

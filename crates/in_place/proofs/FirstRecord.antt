@@ -1,4 +1,4 @@
--- The rule of the first target, asked of the object records that stand behind a component.
+-- The rule of the first target, asked of the object records that are after a component.
 use Prim.Native.Nat.{ℕ, zero, suc, _+_, _<_}
 use mathlib.Core.Path.{_≡_, refl, ap}
 use mathlib.Core.List.{List}
@@ -18,7 +18,7 @@ module _ (z : ℤ) (s : List ℕ) (at : ℕ) where
   unfolding firstTargetOk
   first-missing = refl
 
-  -- The first of them has its target 44 bytes behind the component's place.
+  -- The first of them has its target 44 bytes after the component's place.
   pub first-behind : (n : ℕ) → 0 < n → firstTargetOk true z (objectsAt n s (at + 40)) ≡ isTarget z (u32At s (at + 44))
   unfolding firstTargetOk objectAt
   first-behind zero h = absurd (omega arith)

@@ -11,7 +11,7 @@ use Rattle.layout.specs.Fields.{fieldsOk, fieldTests}
 use Rattle.layout.specs.Neighbours.{isEmpty}
 use Rattle.in_place.specs.Joining.{noneBefore, joins, lastOf, newJoin, newRuleBroken}
 
--- 6, 7 or 0, where the components asked so far keep the rules of the fields (`sound`) and join (`joined`), the last of
+-- 6, 7 or 0, if the components asked so far keep the rules of the fields (`sound`) and join (`joined`), the last of
 -- them is `last`, and `cs` are left.
 abbrev pub brokenFrom : Bool → Bool → Bool → Neighbour → List Component → ℕ
 brokenFrom more sound joined last cs =

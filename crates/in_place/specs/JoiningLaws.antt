@@ -1,4 +1,4 @@
--- The rules of fields and of neighbours, asked of new components behind old ones that keep them, are the rules asked of all.
+-- The rules of fields and of neighbours, asked of new components after old ones that keep them, are the rules asked of all.
 use Prim.Native.Nat.{ℕ, _<_}
 use mathlib.Core.Path.{_≡_, refl, sym, ap, _∙_}
 use mathlib.Core.List.{List, [], _∷_, _++_, map-append}
@@ -31,7 +31,7 @@ shuffle true false e false fs es ls = refl
 shuffle false f e bs fs es ls = refl
 
 module _ (more : Bool) where
-  -- The four parts of the neighbour rule of components behind a component, the third and the fourth asked of that one too.
+  -- The four parts of the neighbour rule of components after a component, the third and the fourth asked of that one too.
   abbrev parts : Neighbour → List Neighbour → Bool
   parts p cs =
       every (along beginsAt endOf (p .end) cs)
@@ -56,12 +56,12 @@ module _ (more : Bool) where
       (every (ahead emptyOk (c ∷ cs)))
       (every (ahead (lastOk more) (c ∷ cs)))
 
-  -- The neighbour rule of components is that of new ones behind none.
+  -- The neighbour rule of components is that of new ones after none.
   pub neighbours-join : (c : Neighbour) (cs : List Neighbour) → neighboursHold more (c ∷ cs) ≡ newJoin more noneBefore (c ∷ cs)
   unfolding neighboursHold
   neighbours-join c cs = sym (joined-parts noneBefore (c ∷ cs))
 
--- The tests of two lists, one behind the other.
+-- The tests of two lists, one after the other.
 every-join : (p : Neighbour) (xs ys : List Neighbour)
     → every (joinTests p (xs ++ ys)) ≡ (every (joinTests p xs) && every (joinTests (lastOf p xs) ys))
 every-join p [] ys = refl
@@ -75,7 +75,7 @@ every-fields (x ∷ xs) ys =
     ap (λ (b : Bool). fieldsOk x && b) (every-fields xs ys)
     ∙ sym (and-assoc (fieldsOk x) (every (fieldTests xs)) (every (fieldTests ys)))
 
--- Components that keep the neighbour rule with pages outstanding pass the tests behind none.
+-- Components that keep the neighbour rule with pages outstanding pass the tests after none.
 old-join : (xs : List Neighbour) → neighboursHold true xs ≡ true → every (joinTests noneBefore xs) ≡ true
 unfolding newJoin
 old-join [] e = refl
@@ -84,7 +84,7 @@ old-join (x ∷ xs) e =
     both-true (every (joinTests noneBefore (x ∷ xs))) (true || not (isEmpty (last .begin) (last .end)))
     (sym (neighbours-join true x xs) ∙ e) .0
 
--- New ones behind them: only the new ones are asked.
+-- New ones after them: only the new ones are asked.
 new-joined : (more : Bool) (xs ys : List Neighbour) → every (joinTests noneBefore xs) ≡ true → 0 < length ys
     → neighboursHold more (xs ++ ys) ≡ newJoin more (lastOf noneBefore xs) ys
 unfolding newJoin

@@ -1,4 +1,4 @@
--- Components that stand at places in the bytes of pages. The places are noted by a walk over the pages.
+-- Components that are at places in the bytes of pages. The places are noted by a walk over the pages.
 use Prim.Native.Nat.{ℕ, _≤_, _<_}
 use mathlib.Core.Path.{_≡_}
 use mathlib.Core.List.{List, map}

@@ -1,4 +1,4 @@
--- The object records of a component are those that stand behind it in the bytes.
+-- The object records of a component are those that are after it in the bytes.
 use Prim.Native.Nat.{ℕ, zero, suc, _+_, _≤_, _<_, min}
 use mathlib.Core.Path.{_≡_, refl, ap, sym, _∙_}
 use mathlib.Core.List.{List}
@@ -20,7 +20,7 @@ length-objects-at zero s at = refl
 length-objects-at (suc n) s at = ap suc (length-objects-at n s (at + 16))
 
 module _ (s : List ℕ) (at : ℕ) where
-  -- The component is to have as many as stand behind it.
+  -- The component is to have as many as are after it.
   pub component-count : recordCount (componentAt s at) ≡ recordsAt s at
   unfolding componentAt recordsAt
   component-count = refl

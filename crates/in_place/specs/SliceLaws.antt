@@ -30,7 +30,7 @@ module _ (s ps : List ℕ) where
         ≡ recordsOf (componentAt s (getD ps i 0)) ++ recordsIn (componentsAt s (slice (i + 1) n ps))
     records-next = rw (components-next n i h k)
 
-    -- as many as stand behind place i, at most 16, and as many as the rest have.
+    -- as many as are after place i, at most 16, and as many as the rest have.
     pub total-next : length (recordsIn (componentsAt s (slice i n ps)))
         ≡ min 16 (recordsAt s (getD ps i 0)) + length (recordsIn (componentsAt s (slice (i + 1) n ps)))
     total-next = rw (records-next, length-append, records-length s (getD ps i 0))
@@ -39,7 +39,7 @@ module _ (s ps : List ℕ) where
   pub components-length : (n : ℕ) → n ≤ length ps → length (componentsAt s (take n ps)) ≡ n
   components-length n h = length-map (take n ps) (componentAt s) ∙ length-take-le n ps h
 
-  -- Directly before position i stands the component at the place before.
+  -- Directly before position i is the component at the place before.
   pub last-before : (i : ℕ) → 0 < i → i ≤ length ps
       → lastOf noneBefore (neighboursOf (componentsAt s (take i ps))) ≡ neighbourOf (componentAt s (getD ps (i - 1) 0))
   last-before i h k =

@@ -45,7 +45,7 @@ fn record_total(s: &[u8], places: &[usize; 16], n: usize) -> usize
     total
 }
 
-// Copies the object records of the component at the place to the rows, from position p on; gives the position behind
+// Copies the object records of the component at the place to the rows, from position p on; gives the position after
 // them.
 fn put_records(s: &[u8], at: usize, p: usize, targets: &mut [u32], numbers: &mut [u64]) -> usize
     requires { let os = recordsOf (componentAt (now s) at) in
@@ -69,7 +69,7 @@ fn put_records(s: &[u8], at: usize, p: usize, targets: &mut [u32], numbers: &mut
 }
 
 // Copies the object records of the components at the first n places to the rows, from their first position on; gives
-// the position behind them.
+// the position after them.
 fn put_all(
     s: &[u8],
     places: &[usize; 16],

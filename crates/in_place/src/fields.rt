@@ -27,7 +27,7 @@ fn kind_ok(s: &[u8], at: usize, c: Neighbour) -> bool
     )
 }
 
-// Is the first target -1, or, where the component is init, that of the first of its n object records?
+// Is the first target -1, or, if the component is init, that of the first of its n object records?
 fn first_target_ok(s: &[u8], at: usize, init: bool, n: usize) -> bool
     requires { ⌜ at + 40 + 16 * n ≤ length (now s) ⌝ }
     ensures { λ r. let b = now (s .entry) in

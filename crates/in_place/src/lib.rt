@@ -1,5 +1,5 @@
-// What stands at places in the bytes of pages: the component rules are asked of the bytes themselves, with no component
-// copied out; and where a layout is wanted, it is built from the places.
+// What is at places in the bytes of pages: the component rules are asked of the bytes themselves, with no component
+// copied out; and if a layout is wanted, it is built from the places.
 ghost use mathlib.Core.Path.{_≡_};
 ghost use Prim.Native.Nat.{_≤_, min};
 ghost use lib.ListN.{length};

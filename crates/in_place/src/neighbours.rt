@@ -39,8 +39,8 @@ fn joins(before: Neighbour, c: Neighbour) -> bool
         & layout::neighbours::empty_ok(before.init, before.begin, before.end, c.extension)
 }
 
-// What stands directly before the component at position i: the component at the place before, or, for the first, what
-// stands for none.
+// What is directly before the component at position i: the component at the place before, or, for the first, what
+// is taken if there is none.
 fn before(s: &[u8], places: &[usize; 16], i: usize) -> Neighbour
     requires { ⌜ (i ≤ 16) × Within (now s) i (now places) ⌝ }
     ensures { λ r. ⌜ r
@@ -54,7 +54,7 @@ fn before(s: &[u8], places: &[usize; 16], i: usize) -> Neighbour
     neighbour_at(s, list[i - 1])
 }
 
-// 6 or 7, the lower number whose rule the components at the places from `from` up to `to` break behind those at the
+// 6 or 7, the lower number whose rule the components at the places from `from` up to `to` break after those at the
 // first `from` places, or 0. `more` says that pages are outstanding. One pass asks both rules.
 pub fn new_rule_broken(s: &[u8], places: &[usize; 16], from: usize, to: usize, more: bool) -> u8
     requires { ⌜ (from ≤ to) × (to ≤ 16) × Within (now s) to (now places) ⌝ }

@@ -1,4 +1,4 @@
-// The layout whose components stand at places. It is built once, in place, by a function that cannot fail.
+// The layout whose components are at places. It is built once, in place, by a function that cannot fail.
 use layout::Layout;
 ghost use mathlib.Core.Path.{_≡_};
 ghost use Prim.Native.Nat.{_≤_};

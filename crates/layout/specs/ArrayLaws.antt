@@ -1,4 +1,4 @@
--- The components of a valid layout, by their places in its array. What is said to stand past the end of a list, d, does
+-- The components of a valid layout, by their places in its array. What is said to be past the end of a list, d, does
 -- not matter.
 use Prim.Native.Nat.{ℕ, zero, suc, _+_, _-_, _<_}
 use mathlib.Core.Path.{_≡_, refl, ap, _∙_}
@@ -26,7 +26,7 @@ module _ (l : Layout) (v : Valid l) (d : Component) where
     in-array : i < length (l .components)
     in-array = omega (arith, v .whole, length-take (l .count) (l .components))
 
-    -- and what stands there is the component at that position.
+    -- and what is there is the component at that position.
     pub component-at : getD (view l) i noComponent ≡ getD (l .components) i d
     component-at =
         any-default (view l) i noComponent d (omega (arith, v .whole)) ∙ getD-take (l .count) (l .components) i d h
@@ -35,12 +35,12 @@ module _ (l : Layout) (v : Valid l) (d : Component) where
     pub component-kind : Kind (getD (l .components) i d)
     component-kind = rw component-at at (kind-at (view l) (v .keeps .fields) noComponent i (omega (arith, v .whole)))
 
-    -- The components from i on are component i and those behind it.
+    -- The components from i on are component i and those after it.
     pub component-next : slice i (l .count) (l .components)
         ≡ getD (l .components) i d ∷ slice (i + 1) (l .count) (l .components)
     component-next = slice-next (l .components) (l .count) i d h in-array
 
-  -- The last component stands at the place one below the count, and the last end is its end.
+  -- The last component is at the place one below the count, and the last end is its end.
   pub last-end : lastEnd (view l) ≡ getD (l .components) (l .count - 1) d .end
   last-end =
       let n : l .count ≡ l .count - 1 + 1 = omega (arith, v .some) in

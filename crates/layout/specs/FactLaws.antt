@@ -50,7 +50,7 @@ facts-multiple : (n : ℕ) → NonzeroMultiple n → nonzeroMultiple n ≡ true
 unfolding nonzeroMultiple
 facts-multiple n u = rw (lt-ltb 0 n (u .nonzero), u .multiple)
 
--- The test of the first target where a component is not init, both ways.
+-- The test of the first target if a component is not init, both ways.
 minus-one : (t : Bool) (z : ℤ) (os : List Object) → t ≡ false → firstTargetOk t z os ≡ true → z ≡ negsuc 0
 unfolding firstTargetOk isMinusOne
 minus-one true z os h e = absurd (true≢false h)
@@ -115,7 +115,7 @@ module _ (c : Component) where
   abbrev firstTest : Bool
   firstTest = firstTargetOk (c .init) (c .«first_target») (recordsOf c)
 
-  -- The tests of the fields, where the component is init.
+  -- The tests of the fields, if the component is init.
   init-kind : c .init ≡ true → c .extension ≡ false → kindTest ≡ true → firstTest ≡ true
       → every (each targetOk (recordsOf c)) ≡ true → length (recordsOf c) ≡ recordCount c → Kind c
   unfolding kindOk
@@ -132,7 +132,7 @@ module _ (c : Component) where
         targets = λ j h. leb-true (getD (recordsOf c) j noObject .target) 65534 (each-at targetOk noObject (recordsOf c) t j h);
       }
 
-  -- The tests of the fields, where it is not.
+  -- The tests of the fields, if it is not.
   other-kind : c .init ≡ false → leb (c .begin) (c .end) ≡ true → kindTest ≡ true → firstTest ≡ true → Kind c
   unfolding kindOk extensionOk
   other-kind i b k f =
@@ -267,7 +267,7 @@ facts-last false c [] f = ap not (f refl)
 facts-last more c (d ∷ cs) f = refl
 
 module _ (more : Bool) where
-  -- The four parts for a list, both ways: the component before it ends at `at`, and `may` says that an extension may stand first.
+  -- The four parts for a list, both ways: the component before it ends at `at`, and `may` says that an extension may be first.
   linked-from : (at : ℕ) (may : Bool) (cs : List Component) → every (along beginsAt endOf at (neighboursOf cs)) ≡ true
       → every (along followsOk mayFollow may (neighboursOf cs)) ≡ true → every (emptyTests (neighboursOf cs)) ≡ true → every (lastTests more (neighboursOf cs)) ≡ true
       → Linked more at may cs
@@ -370,7 +370,7 @@ facts-valid l v =
       facts-keep false (view l) (v .keeps),
     )
 
--- Does an extension stand first?
+-- Is an extension first?
 abbrev pub startsExtension : List Component → Bool
 startsExtension [] = false
 startsExtension (c ∷ cs) = c .extension

@@ -72,14 +72,14 @@ abbrev pub Follower : Bool → Component → List Component → Type 0
 Follower more c [] = more ≡ false → isEmpty (c .begin) (c .end) ≡ false
 Follower more c (d ∷ cs) = c .init ≡ false → isEmpty (c .begin) (c .end) ≡ d .extension
 
--- Refusal 7 does not apply to the list, where the component before it ends at `at`, and `may` says that an extension may stand
+-- Refusal 7 does not apply to the list, where the component before it ends at `at`, and `may` says that an extension may be
 -- first.
 abbrev pub Linked : Bool → ℕ → Bool → List Component → Type 0
 Linked more at may [] = Unit {0}
 Linked more at may (c ∷ cs) =
     (c .begin ≡ at) × (c .extension ≡ true → may ≡ true) × Follower more c cs × Linked more (c .end) (not (c .extension)) cs
 
--- The component rules hold of the list, with pages outstanding or not: no id and no object stands twice.
+-- The component rules hold of the list, with pages outstanding or not: no id and no object is there twice.
 pub record Keeps (more : Bool) (cs : List Component) : Type 0 where
   pub fields : Fields cs
   pub linked : Linked more 0 false cs

@@ -51,7 +51,7 @@ abbrev pub targetOk : Object → Bool
 targetOk o = leb (o .target) 65534
 
 -- The rules of the fields: "id at least 1; begin at most end; init and extension not both", then the kinds, the first target
--- and the targets. The last clause, that the object records are all there, follows where the array has 16 places; it stands here
+-- and the targets. The last clause, that the object records are all there, follows if the array has 16 places; it is here
 -- so that laws about lists may use it.
 unfoldable pub fieldsOk : Component → Bool
 fieldsOk c =

@@ -12,7 +12,7 @@ use Rattle.layout.specs.Neighbours.{endOf}
 abbrev pub holds : Component → ℕ → Bool
 holds c b = leb (c .begin) b && ltb b (c .end)
 
--- The position of the first component that holds byte b, from 0; the number of components where none does.
+-- The position of the first component that holds byte b, from 0; the number of components if none does.
 abbrev pub holderOf : ℕ → List Component → ℕ
 holderOf b cs = firstThat (λ (c : Component). holds c b) cs
 
@@ -20,6 +20,6 @@ holderOf b cs = firstThat (λ (c : Component). holds c b) cs
 abbrev pub covers : List Component → ℕ → Bool
 covers cs b = anyOf (λ (c : Component). holds c b) cs
 
--- Where the last component ends; 0 where there is none.
+-- Where the last component ends; 0 if there is none.
 abbrev pub lastEnd : List Component → ℕ
 lastEnd cs = after endOf 0 (neighboursOf cs)

@@ -1,4 +1,4 @@
--- Which component holds a byte, where the components stand end to end, and which bytes are covered.
+-- Which component holds a byte, if the components are end to end, and which bytes are covered.
 use Prim.Native.Nat.{ℕ, zero, suc, _-_, _^_, _≤_, _<_}
 use mathlib.Core.Path.{_≡_, refl, sym, ap}
 use mathlib.Core.List.{List, [], _∷_}
@@ -16,7 +16,7 @@ use Rattle.layout.specs.Holder.{holds, holderOf, covers, lastEnd}
 use Rattle.layout.specs.Facts.{Fields, Linked}
 use Rattle.layout.specs.FactLaws.{kind-ordered}
 
--- The position of the first component whose end lies above byte b, from 0; the number of components where none does.
+-- The position of the first component whose end lies above byte b, from 0; the number of components if none does.
 abbrev pub endsAbove : ℕ → List Component → ℕ
 endsAbove b cs = firstThat (λ (c : Component). ltb b (c .end)) cs
 
@@ -55,7 +55,7 @@ module _ (more : Bool) where
       (λ e. let p = ltb-false b (c .end) e in
       rw (holds-past c b p, e) (ap suc (holder-from (c .end) (not (c .extension)) cs (k .3) b p)))
 
-  -- Where the components stand end to end from 0, the first that ends above a byte is the one that holds it.
+  -- If the components are end to end from 0, the first that ends above a byte is the one that holds it.
   pub holder-ends : (cs : List Component) → Linked more 0 false cs → (b : ℕ) → holderOf b cs ≡ endsAbove b cs
   holder-ends cs k b = holder-from 0 false cs k b (omega arith)
 
@@ -78,7 +78,7 @@ module _ (more : Bool) where
   ends-rise at may (c ∷ cs) k f (suc i) (suc j) h l =
       ends-rise (c .end) (not (c .extension)) cs (k .3) (f .2) i j (omega arith) (omega arith)
 
-  -- No two components hold a byte: a component that does stands at the position of the byte's component.
+  -- No two components hold a byte: a component that does is at the position of the byte's component.
   pub at-most-one : (at : ℕ) (may : Bool) (cs : List Component) → Linked more at may cs → Fields cs → (b i : ℕ) → i < length cs
       → holds (getD cs i noComponent) b ≡ true → i ≡ holderOf b cs
   at-most-one at may [] k f b i h e = absurd (omega arith)
@@ -107,6 +107,6 @@ module _ (more : Bool) where
       (λ e. let p = ltb-false b (c .end) e in
       rw (holds-past c b p) (covers-from (c .end) (not (c .extension)) cs (k .3) (f .2) b p))
 
-  -- Where the components stand end to end from 0, exactly the bytes below the last end are covered.
+  -- If the components are end to end from 0, exactly the bytes below the last end are covered.
   pub covers-last : (cs : List Component) → Linked more 0 false cs → Fields cs → (b : ℕ) → covers cs b ≡ ltb b (lastEnd cs)
   covers-last cs k f b = covers-from 0 false cs k f b (omega arith)

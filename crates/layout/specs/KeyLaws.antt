@@ -1,4 +1,4 @@
--- The keys of object records: where they differ, the records do.
+-- The keys of object records: if they differ, the records do.
 use Prim.Native.Nat.{ℕ, _≤_, _<_}
 use mathlib.Core.Path.{_≡_, sym, ap, _∙_}
 use mathlib.Core.List.{List, [], _∷_}
@@ -17,7 +17,7 @@ use Rattle.layout.specs.Rows.{keyOf, keysOf}
 use Rattle.layout.specs.Distinct.{sameObject}
 use Rattle.layout.specs.FactLaws.{same-object}
 
--- The key of an object record that stands in a list stands among the keys of the list.
+-- The key of an object record that is in a list is among the keys of the list.
 pub key-alike : (o : Object) (os : List Object) → elem sameObject o os ≡ true → elem eqb (keyOf o) (keysOf os) ≡ true
 key-alike o [] e = absurd (false≢true e)
 key-alike o (p ∷ os) e =
@@ -32,7 +32,7 @@ getD-keys : (os : List Object) (i : ℕ) → getD (keysOf os) i 0 ≡ keyOf (get
 unfolding keyOf
 getD-keys os i = List·getD-map keyOf os i noObject
 
--- A list of at least n object records, and a row with the keys of the first n. Where the record at place i is asked of those from
+-- A list of at least n object records, and a row with the keys of the first n. If the record at place i is asked of those from
 -- `start` on, it is asked of all before it.
 module _ (os : List Object) (keys : List ℕ) (n i : ℕ) (h : i < n) (k : n ≤ length os) (e : take n keys ≡ keysOf (take n os)) where
   keys-first : take i keys ≡ keysOf (take i os)

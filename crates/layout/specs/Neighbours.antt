@@ -19,7 +19,7 @@ endOf at c = c .end
 abbrev pub beginTests : List Neighbour → List Bool
 beginTests cs = along beginsAt endOf 0 cs
 
--- "An extension directly follows a component that is not one." `may` says that such a component stands directly before.
+-- "An extension directly follows a component that is not one." `may` says that such a component is directly before.
 abbrev pub mayStand : Bool → Bool → Bool
 mayStand may extension = not extension || may
 
@@ -43,7 +43,7 @@ isEmpty begin end = eqb begin end
 abbrev pub emptyBefore : Bool → ℕ → ℕ → Bool → Bool
 emptyBefore init begin end extensionFollows = init || Bool·beq (isEmpty begin end) extensionFollows
 
--- The same of a component and those behind it: "this is asked once its follower is gathered."
+-- The same of a component and those after it: "this is asked once its follower is gathered."
 abbrev pub emptyOk : Neighbour → List Neighbour → Bool
 emptyOk c [] = true
 emptyOk c (d ∷ cs) = emptyBefore (c .init) (c .begin) (c .end) (d .extension)

@@ -1,4 +1,4 @@
--- What a whole list of components keeps, its first part keeps with pages outstanding; and where a first part is known to keep
+-- What a whole list of components keeps, its first part keeps with pages outstanding; and if a first part is known to keep
 -- the rules with pages outstanding, which tests of the whole list are known to pass.
 use Prim.Native.Nat.{ℕ, zero, suc, _-_}
 use mathlib.Core.Path.{_≡_, refl, sym, ap, _∙_}
@@ -23,7 +23,7 @@ use Rattle.layout.specs.Rules.{ruleBroken}
 use Rattle.layout.specs.Facts.{Fields, Follower, Linked, Keeps}
 use Rattle.layout.specs.FactLaws.{rules-hold}
 
--- The object records of two lists of components, one behind the other.
+-- The object records of two lists of components, one after the other.
 pub recordsIn-append : (xs ys : List Component) → recordsIn (xs ++ ys) ≡ recordsIn xs ++ recordsIn ys
 recordsIn-append [] ys = refl
 recordsIn-append (c ∷ xs) ys = rw (recordsIn-append xs ys) (sym (append-assoc (recordsOf c) (recordsIn xs) (recordsIn ys)))
@@ -72,14 +72,14 @@ take-empties (suc k) [] = refl
 take-empties (suc k) (c ∷ []) = refl
 take-empties (suc k) (c ∷ d ∷ cs) = ap (λ (ts : List Bool). emptyOk c (d ∷ cs) ∷ ts) (take-empties k (d ∷ cs))
 
--- So where the tests pass for the first k components alone, the first k - 1 pass for the whole list.
+-- So if the tests pass for the first k components alone, the first k - 1 pass for the whole list.
 empties-take : (k : ℕ) (cs : List Neighbour) → every (emptyTests (take k cs)) ≡ true → every (take (k - 1) (emptyTests cs)) ≡ true
 empties-take zero cs e = refl
 empties-take (suc k) cs e =
     let z : suc k - 1 ≡ k = omega arith in
     rw (z, take-empties k cs) (every-take k (emptyTests (take (suc k) cs)) e)
 
--- Where the first k components are known to break no rule with pages outstanding:
+-- If the first k components are known to break no rule with pages outstanding:
 module _ (k : ℕ) (cs : List Component) (e : ruleBroken true (take k cs) ≡ 0) where
   -- the first three parts of the neighbour rule hold of them;
   parts : (every (beginTests (neighboursOf (take k cs))) ≡ true) × (every (followTests (neighboursOf (take k cs))) ≡ true)

@@ -12,7 +12,7 @@ use Rattle.layout.specs.declared.Neighbour.{Neighbour}
 use Rattle.layout.specs.declared.Layout.{Layout}
 use Rattle.layout.specs.declared.Outline.{Outline}
 
--- What stands in the unused places of an object array.
+-- What is in the unused places of an object array.
 abbrev pub noObject : Object
 noObject = record { target = 0; number = 0 }
 
@@ -81,7 +81,7 @@ packObjects os = sets (replicate 16 noObject) 0 os
 unfoldable pub packComponents : List Component → List Component
 packComponents cs = sets (replicate 16 noComponent) 0 cs
 
--- What stands in the unused places of an outline.
+-- What is in the unused places of an outline.
 abbrev pub noNeighbour : Neighbour
 noNeighbour = record { init = false; extension = false; begin = 0; end = 0 }
 

@@ -1,4 +1,4 @@
--- Document 01's layouts A and B and the component of its one-page example, as components, and that they break no rule. Where the
+-- Document 01's layouts A and B and the component of its one-page example, as components, and that they break no rule. If the
 -- paper leaves an object open, one is chosen.
 use Prim.Native.Nat.{ℕ, _*_}
 use mathlib.Core.Path.{_≡_, refl}

@@ -64,7 +64,7 @@ fn put_keys(targets: &[u32], numbers: &[u64], n: usize, keys: &mut [u16])
     }
 }
 
-// The place from which on the record at place i is asked of those before it: i where its key equals none of theirs, so
+// The place from which on the record at place i is asked of those before it: i if its key equals none of theirs, so
 // that none is asked, else 0. The loop has one way out, so that it is compiled to few instructions for many places.
 fn row_start(keys: &[u16], i: usize) -> usize
     requires { ⌜ i < length (now keys) ⌝ }
@@ -111,7 +111,7 @@ fn repeat_by_keys(targets: &[u32], numbers: &[u64], keys: &[u16], n: usize, from
     later
 }
 
-// The same, where the keys are not known yet: `keys` has room for them.
+// The same, if the keys are not known yet: `keys` has room for them.
 pub fn object_repeat(
     targets: &[u32],
     numbers: &[u64],
@@ -131,7 +131,7 @@ pub fn object_repeat(
     repeat_by_keys(targets, numbers, keys, n, from)
 }
 
-// Copies the object records of a component to the rows, from place `at` on; gives the place behind them.
+// Copies the object records of a component to the rows, from place `at` on; gives the place after them.
 pub fn put_records(c: Component, at: usize, targets: &mut [u32], numbers: &mut [u64]) -> usize
     requires { ⌜ (at + 16 ≤ length (now targets)) × (at + 16 ≤ length (now numbers)) ⌝ }
     ensures { λ r. ⌜ (r ≡ at + length (recordsOf c))
@@ -152,7 +152,7 @@ pub fn put_records(c: Component, at: usize, targets: &mut [u32], numbers: &mut [
 }
 
 // Copies the object records of the components from `first` up to `end` to the rows, from place `at` on; gives the place
-// behind them.
+// after them.
 pub fn put_all(
     l: Layout,
     first: usize,

@@ -73,7 +73,7 @@ pub fn is_target(z: i32, target: u32) -> bool
     false
 }
 
-// How many object records the component's array holds: its stripe count where it is init, at most 16.
+// How many object records the component's array holds: its stripe count if it is init, at most 16.
 pub fn record_count(c: Component) -> usize
     ensures { λ r. ⌜ (r ≤ 16)
         × (length (c .objects) ≡ 16)
@@ -89,7 +89,7 @@ pub fn record_count(c: Component) -> usize
     0
 }
 
-// Is the first target -1, or, where the component is init, that of the first object record?
+// Is the first target -1, or, if the component is init, that of the first object record?
 pub fn first_target_ok(c: Component) -> bool
     ensures { λ r. ⌜ r ≡ firstTargetOk (c .init) (c .«first_target») (recordsOf c) ⌝ }
 {

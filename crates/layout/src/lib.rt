@@ -19,7 +19,7 @@ pub struct Object {
     pub number: u64,
 }
 
-// A component: its extent [begin, end) in bytes of the file, how it is striped, and, where it is init, an object record
+// A component: its extent [begin, end) in bytes of the file, how it is striped, and, if it is init, an object record
 // for each stripe in the first places of `objects`.
 pub struct Component {
     pub init: bool,
@@ -42,7 +42,7 @@ pub struct Neighbour {
     pub end: u64,
 }
 
-// A layout: its components stand in the first `count` places, in the order of the file.
+// A layout: its components are in the first `count` places, in the order of the file.
 pub struct Layout {
     pub generation: u32,
     pub count: usize,
@@ -170,7 +170,7 @@ pub fn rule_broken_from(l: Layout, more: bool, from: usize) -> u8
     later_rule_broken(l, more, from)
 }
 
-// The same, where nothing is known of the components.
+// The same, if nothing is known of the components.
 pub fn rule_broken(l: Layout, more: bool) -> u8
     requires { ⌜ l .count ≤ 16 ⌝ }
     ensures { λ r. ⌜ r ≡ ruleBroken more (view l) ⌝ }
@@ -191,7 +191,7 @@ pub fn is_valid(l: Layout) -> bool
     rule_broken(l, false) == 0
 }
 
-// The position of the component that holds the file byte, or the count where none does.
+// The position of the component that holds the file byte, or the count if none does.
 pub fn holder(l: Layout, offset: u64) -> usize
     requires { ⌜ valid l ≡ true ⌝ }
     ensures { λ r. ⌜ (r ≡ holderOf offset (view l)) × (r ≤ l .count) ⌝ }

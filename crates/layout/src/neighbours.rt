@@ -23,7 +23,7 @@ pub fn end_before(list: [Neighbour; 16], i: usize) -> u64
     c.end
 }
 
-// May an extension stand at position i: is there a component directly before it, and is that not an extension?
+// May an extension be at position i: is there a component directly before it, and is that not an extension?
 pub fn may_before(list: [Neighbour; 16], i: usize) -> bool
     requires { ⌜ i ≤ 16 ⌝ }
     ensures { λ r. ⌜ r ≡ after mayFollow false (take i list) ⌝ }
@@ -72,7 +72,7 @@ pub fn follow_fault(list: [Neighbour; 16], n: usize, from: usize) -> usize
     i
 }
 
-// May the component stand here: is it no extension, or may one follow?
+// May the component be here: is it no extension, or may one follow?
 pub fn follows_ok(may: bool, extension: bool) -> bool
     ensures { λ r. ⌜ r ≡ mayStand may extension ⌝ }
 {
@@ -87,7 +87,7 @@ pub fn empty_ok(init: bool, begin: u64, end: u64, extension_follows: bool) -> bo
     init | (empty == extension_follows)
 }
 
-// The first component, but for the last, that is not init and is empty where no extension follows, or not empty where
+// The first component, but for the last, that is not init and is empty if no extension follows, or not empty if
 // one does.
 pub fn empty_fault(list: [Neighbour; 16], n: usize, from: usize) -> usize
     requires { ⌜ Passed from n (emptyTests (take n list)) ⌝ }
@@ -106,7 +106,7 @@ pub fn empty_fault(list: [Neighbour; 16], n: usize, from: usize) -> usize
     n
 }
 
-// The last component where it is empty with no pages outstanding.
+// The last component if it is empty with no pages outstanding.
 pub fn last_fault(list: [Neighbour; 16], n: usize, more: bool) -> usize
     requires { ⌜ n ≤ 16 ⌝ }
     ensures { λ r. ⌜ r ≡ firstFailed (lastTests more (take n list)) ⌝ }

@@ -25,19 +25,19 @@ after-seen seen [] = sym (append-nil seen)
 after-seen seen (a ∷ l) = after-seen (seen ++ (a ∷ [])) l ∙ append-snoc seen a l
 
 module _ {A : Type 0} (same : A → A → Bool) where
-  -- Does x stand in the list?
+  -- Is x in the list?
   abbrev pub elem : A → List A → Bool
   elem x l = anyOf (same x) l
 
-  -- Does x stand in none of those seen?
+  -- Is x in none of those seen?
   abbrev pub unseen : List A → A → Bool
   unseen seen x = not (elem x seen)
 
-  -- One test for each element: it differs from all that stand before it.
+  -- One test for each element: it differs from all that are before it.
   abbrev pub fresh : List A → List Bool
   fresh l = along unseen seenWith [] l
 
-  -- How often x stands in the list.
+  -- How often x is in the list.
   abbrev pub count : A → List A → ℕ
   count x [] = 0
   count x (a ∷ l) = bit (same x a) + count x l
@@ -46,12 +46,12 @@ module _ {A : Type 0} (same : A → A → Bool) where
   count-append x [] m = omega arith
   count-append x (a ∷ l) m = omega (arith, count-append x l m)
 
-  -- An element stands in two lists, one behind the other, exactly if it stands in one of them.
+  -- An element is in two lists, one after the other, exactly if it is in one of them.
   pub elem-append : (x : A) (l m : List A) → elem x (l ++ m) ≡ (elem x l || elem x m)
   elem-append x [] m = refl
   elem-append x (a ∷ l) m = bool-cases (same x a) (λ e. rw e) (λ e. rw e (elem-append x l m))
 
-  -- An element that does not stand in a list counts 0 there, and one that does at least 1.
+  -- An element that is not in a list counts 0 there, and one that is counts at least 1.
   pub elem-false : (x : A) (l : List A) → elem x l ≡ false → count x l ≡ 0
   elem-false x [] e = refl
   elem-false x (a ∷ l) e =
@@ -93,14 +93,14 @@ module _ {A : Type 0} (same : A → A → Bool) where
     pub count-fresh : (l : List A) → ((x : A) → count x l ≤ 1) → every (fresh l) ≡ true
     count-fresh l h = along-count [] l h
 
-    -- The element at a place stands in the list.
+    -- The element at a place is in the list.
     pub elem-at : (l : List A) (i : ℕ) (d : A) → i < length l → elem (getD l i d) l ≡ true
     elem-at [] i d h = absurd (omega arith)
     elem-at (a ∷ l) zero d h = rw (same-refl a)
     elem-at (a ∷ l) (suc i) d h =
         bool-cases (same (getD l i d) a) (λ e. rw e) (λ e. rw e (elem-at l i d (omega arith)))
 
-    -- The element at a place counts; where it counts once, it stands at no other place.
+    -- The element at a place counts; if it counts once, it is at no other place.
     pub count-at : (l : List A) (i : ℕ) (d : A) → i < length l → 1 ≤ count (getD l i d) l
     count-at [] i d h = omega arith
     count-at (a ∷ l) zero d h = rw (same-refl a) (omega arith)

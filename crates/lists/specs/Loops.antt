@@ -55,7 +55,7 @@ after-before next s l i d h k =
     let e : i ≡ i - 1 + 1 = omega arith in
     ap (λ (j : ℕ). after next s (take j l)) e ∙ rw (take-next l (i - 1) d (omega arith), after-append)
 
--- A scan for the first element that equals one before it: a row of the scan asks one element of all that stand before it.
+-- A scan for the first element that equals one before it: a row of the scan asks one element of all that are before it.
 module _ {A : Type 0} (same : A → A → Bool) (l : List A) (n i : ℕ) where
   pub scan-start : i ≤ n → n ≤ length l → every (take i (fresh same (take n l))) ≡ true
       → firstFailed (fresh same (take n l)) ≡ i + firstFailed (along (unseen same) seenWith (take i l) (slice i n l))

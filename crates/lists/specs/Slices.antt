@@ -21,12 +21,12 @@ module _ {A : Type 0} (l : List A) (n i : ℕ) where
 pub take-next : {A : Type 0} (l : List A) (i : ℕ) (d : A) → i < length l → take (i + 1) l ≡ take i l ++ (getD l i d ∷ [])
 take-next l i d h = rw add-one (take-suc l i d h)
 
--- Two runs of stores, one behind the other, are one.
+-- Two runs of stores, one after the other, are one.
 pub sets-append : {A : Type 0} (l : List A) (i : ℕ) (a b : List A) → sets l i (a ++ b) ≡ sets (sets l i a) (i + length a) b
 sets-append l i [] b = rw add-zero
 sets-append l i (x ∷ a) b = rw (add-suc, ← suc-add i (length a)) (sets-append (set l i x) (suc i) a b)
 
--- An element of a list is the same whatever is said to stand past the list's end.
+-- An element of a list is the same whatever is said to be past the list's end.
 pub any-default : {A : Type 0} (l : List A) (i : ℕ) (d e : A) → i < length l → getD l i d ≡ getD l i e
 any-default [] i d e h = absurd (omega arith)
 any-default (a ∷ l) zero d e h = refl
@@ -42,7 +42,7 @@ sets-next {A} l at j x xs =
     let e : suc (at + j) ≡ at + (j + 1) = omega arith in
     ap (λ (k : ℕ). sets (set l (at + j) x) k xs) e
 
--- A list stored from the first place of a list that is at least as long stands in its first places.
+-- A list stored from the first place of a list that is at least as long is in its first places.
 pub take-sets : {A : Type 0} (l v : List A) → length v ≤ length l → take (length v) (sets l 0 v) ≡ v
 take-sets l v h = rw (sets-eq v l 0 (omega arith)) (take-append-seam v (drop (0 + length v) l))
 

@@ -16,7 +16,7 @@ abbrev pub every : List Bool → Bool
 every [] = true
 every (t ∷ ts) = t && every ts
 
--- The position of the first test that fails, from 0; the number of tests where none does.
+-- The position of the first test that fails, from 0; the number of tests if none does.
 abbrev pub firstFailed : List Bool → ℕ
 firstFailed [] = 0
 firstFailed (t ∷ ts) = cond t (suc (firstFailed ts)) 0
@@ -50,12 +50,12 @@ abbrev pub anyOf : {A : Type 0} → (A → Bool) → List A → Bool
 anyOf ok [] = false
 anyOf ok (a ∷ l) = ok a || anyOf ok l
 
--- The position of the first element that passes the test, from 0; the number of elements where none does.
+-- The position of the first element that passes the test, from 0; the number of elements if none does.
 abbrev pub firstThat : {A : Type 0} → (A → Bool) → List A → ℕ
 firstThat ok [] = 0
 firstThat ok (a ∷ l) = cond (ok a) 0 (suc (firstThat ok l))
 
--- Every test passes exactly if the first that fails stands at the number of tests.
+-- Every test passes exactly if the first that fails is at the number of tests.
 pub none-failed : (ts : List Bool) → length ts ≤ firstFailed ts → every ts ≡ true
 none-failed [] h = refl
 none-failed (true ∷ ts) h = none-failed ts (omega arith)

@@ -1,1 +1,1 @@
-// Laws about lists and tests that the crates above share. No code: the laws stand in specs/.
+// Laws about lists and tests that the crates above share. No code: the laws are in specs/.

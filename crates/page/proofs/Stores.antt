@@ -1,4 +1,4 @@
--- Runs of stores one behind the other, as calls that write leave them, and the lengths of what the calls write.
+-- Runs of stores one after the other, as calls that write leave them, and the lengths of what the calls write.
 use Prim.Native.Nat.{ℕ, _+_, _*_}
 use mathlib.Core.Path.{_≡_, refl}
 use mathlib.Core.List.{List, _∷_}
@@ -65,7 +65,7 @@ pub head-stored : (s : List ℕ) (h : Head) (flags : ℕ) → flags ≡ flagWord
 unfolding headBytes
 head-stored s h flags f = rw f (simp (sets-append, length-append, length-words, u32-length))
 
--- Once object record i is stored behind i others, the records behind it are left to store, 16 bytes further on.
+-- Once object record i is stored after i others, the records after it are left to store, 16 bytes further on.
 pub object-turn : (b b₁ : List ℕ) (at i place : ℕ) (o : Object) (os : List Object) → b₁ ≡ sets b place (objectBytes o)
     → place ≡ at + 16 * i → sets b (at + 16 * i) (objectsBytes (o ∷ os)) ≡ sets b₁ (at + 16 * (i + 1)) (objectsBytes os)
 object-turn b b₁ at i place o os p h =

@@ -14,7 +14,7 @@ turn n i h = omega arith
 pub done : (n i : ℕ) → n ≤ i → n - i ≡ 0
 done n i h = omega arith
 
--- Where the next object record stands.
+-- Where the next object record is.
 next-place : (at i : ℕ) → at + 16 * i + 16 ≡ at + 16 * (i + 1)
 next-place at i = omega arith
 

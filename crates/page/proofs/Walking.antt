@@ -79,12 +79,12 @@ module _ (s : List ℕ) (n i at : ℕ) where
     pub places-done : n ≤ i → sets places (m + i) (shifted base (placesFrom (n - i) s at)) ≡ places
     places-done h = rw (done n i h)
 
--- Where the page has not its form.
+-- If the page has not its form.
 pub walks-faulty : (limit : ℕ) (s : List ℕ) (base n : ℕ) (before after : List ℕ) → formBy limit s ≡ false
     → take n after ≡ take n before → length after ≡ length before → Walks limit s base n before after 0
 walks-faulty limit s base n before after e k l = (rw e, k, l, λ f. clash f e)
 
--- Where it has, and the walk ends at a place.
+-- If it has, and the walk ends at a place.
 pub walks-whole : (limit : ℕ) (s : List ℕ) (base n : ℕ) (before after : List ℕ) (at : ℕ) → formBy limit s ≡ true
     → pageEnd s ≡ at → take n after ≡ take n before → length after ≡ length before
     → after ≡ sets before n (pagePlaces base s) → Walks limit s base n before after at

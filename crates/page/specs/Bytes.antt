@@ -14,7 +14,7 @@ use Rattle.page.specs.declared.Head.{Head}
 unfoldable pub objectBytes : Object → List ℕ
 objectBytes o = u16Bytes 0x424F ++ u16Bytes 0 ++ u32Bytes (o .target) ++ u64Bytes (o .number)
 
--- Object records, one behind the other.
+-- Object records, one after the other.
 abbrev pub objectsBytes : List Object → List ℕ
 objectsBytes [] = []
 objectsBytes (o ∷ os) = objectBytes o ++ objectsBytes os
@@ -36,12 +36,12 @@ fieldBytes c =
     ++ u32Bytes (bitsOf (c .«first_target»))
     ++ longs (c .begin) (c .end) (c .«extension_size»)
 
--- A component and behind it its object records: "If init, as many object records as the stripe count follow, in the
+-- A component and after it its object records: "If init, as many object records as the stripe count follow, in the
 -- same page."
 unfoldable pub componentBytes : Component → List ℕ
 componentBytes c = fieldBytes c ++ objectsBytes (recordsOf c)
 
--- Components, one behind the other.
+-- Components, one after the other.
 abbrev pub componentsBytes : List Component → List ℕ
 componentsBytes [] = []
 componentsBytes (c ∷ cs) = componentBytes c ++ componentsBytes cs

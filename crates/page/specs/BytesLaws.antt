@@ -1,4 +1,4 @@
--- How many bytes records and a page are written as, and what lists of components are written as, one behind the other.
+-- How many bytes records and a page are written as, and what lists of components are written as, one after the other.
 use Prim.Native.Nat.{ℕ, _+_, _*_}
 use mathlib.Core.Path.{_≡_, refl}
 use mathlib.Core.List.{List, [], _∷_, _++_, append-assoc}
@@ -52,13 +52,13 @@ pub length-page : (h : Head) (cs : List Component) → length (pageBytes h cs) �
 unfolding pageBytes
 length-page h cs = rw (length-append, length-head h, length-components-bytes cs)
 
--- Of two lists of components one behind the other, the bytes of the second stand behind those of the first.
+-- Of two lists of components one after the other, the bytes of the second are after those of the first.
 pub components-bytes-append : (cs ds : List Component)
     → componentsBytes (cs ++ ds) ≡ componentsBytes cs ++ componentsBytes ds
 components-bytes-append [] ds = refl
 components-bytes-append (c ∷ cs) ds = rw (components-bytes-append cs ds, append-assoc)
 
--- Of two lists of components one behind the other, the numbers of bytes add up.
+-- Of two lists of components one after the other, the numbers of bytes add up.
 pub total-append : (cs ds : List Component) → total (cs ++ ds) ≡ total cs + total ds
 total-append [] ds = omega arith
 total-append (c ∷ cs) ds = omega (arith, total-append cs ds)

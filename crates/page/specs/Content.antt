@@ -1,5 +1,5 @@
 -- What a page says: its head, and the components at their places. Decoding is total: it is defined on all bytes and at
--- all places, and means something where the page has its form.
+-- all places, and means something if the page has its form.
 use Prim.Native.Nat.{ℕ, zero, suc, _+_, min}
 use mathlib.Core.List.{List, [], _∷_, map}
 use Rattle.bytes_le.specs.Numbers.{u16At, u32At, u64At, i32At}

@@ -193,18 +193,18 @@ first-content s e =
     let by : formBy n s ≡ true = form-shrinks (min 512 (length s)) n s e (omega arith) in
     (head-take n s (form-room n s by), components-take n s by)
 
--- A page with any bytes behind it.
+-- A page with any bytes after it.
 module _ (p t : List ℕ) (e : pageForm p ≡ true) where
   -- The bytes begin with a page that ends by the end of p.
   pub whole-by : formBy (length p) (p ++ t) ≡ true
   whole-by =
       rw (← form-take (length p) (p ++ t) (length p) (omega arith), take-append-seam p t) (page-by p e)
 
-  -- It is cut off at the end of p, whatever stands behind it.
+  -- It is cut off at the end of p, whatever is after it.
   pub whole-page : pageEnd (p ++ t) ≡ length p
   whole-page = sym (page-end-take (length p) (p ++ t) whole-by) ∙ rw (take-append-seam p t) (page-ends p e)
 
-  -- The page cut off is p, and what is left are the bytes behind it.
+  -- The page cut off is p, and what is left are the bytes after it.
   pub whole-cut : take (pageEnd (p ++ t)) (p ++ t) ≡ p
   whole-cut = rw whole-page (take-append-seam p t)
 

@@ -22,7 +22,7 @@ objectsForm (suc n) s at = objectForm s at && objectsForm n s (at + 16)
 unfoldable pub componentMarks : List ℕ → ℕ → Bool
 componentMarks s at = eqb (u16At s at) 0x5043 && onlyFirst 2 (u16At s (at + 2))
 
--- The number of object records behind the component: "If init, as many object records as the stripe count follow".
+-- The number of object records after the component: "If init, as many object records as the stripe count follow".
 unfoldable pub recordsAt : List ℕ → ℕ → ℕ
 recordsAt s at = countOf (isSet 0 (u16At s (at + 2))) (u16At s (at + 6))
 
@@ -39,7 +39,7 @@ unfoldable pub componentForm : ℕ → List ℕ → ℕ → Bool
 componentForm limit s at =
     leb (behind s at) limit && componentMarks s at && objectsForm (recordsAt s at) s (at + 40)
 
--- The n components from a place on, one behind the other, have their form and end by the limit.
+-- The n components from a place on, one after the other, have their form and end by the limit.
 abbrev pub componentsForm : ℕ → ℕ → List ℕ → ℕ → Bool
 componentsForm zero limit s at = true
 componentsForm (suc n) limit s at = componentForm limit s at && componentsForm n limit s (behind s at)
@@ -75,7 +75,7 @@ pageEnd s = endFrom (counted s) s 16
 unfoldable pub formBy : ℕ → List ℕ → Bool
 formBy limit s = leb 16 limit && headForm s && componentsForm (counted s) limit s 16
 
--- The bytes are a page: "A page has 16 to 512 bytes and nothing after its last record." Where this fails, refusal 3
+-- The bytes are a page: "A page has 16 to 512 bytes and nothing after its last record." If this fails, refusal 3
 -- applies.
 unfoldable pub pageForm : List ℕ → Bool
 pageForm s = leb (length s) 512 && formBy (length s) s && eqb (pageEnd s) (length s)

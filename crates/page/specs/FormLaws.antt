@@ -54,7 +54,7 @@ pub component-by : (limit m : ℕ) (s : List ℕ) (at : ℕ) → componentForm l
     → componentForm m s at ≡ true
 component-by limit m s at e h = component-of m s at h (component-marked limit s at e) (component-objects limit s at e)
 
--- Of components that have their form, the first has it, and those behind it have it.
+-- Of components that have their form, the first has it, and those after it have it.
 pub components-parts : (n limit : ℕ) (s : List ℕ) (at : ℕ) → componentsForm (suc n) limit s at ≡ true
     → (componentForm limit s at ≡ true) × (componentsForm n limit s (behind s at) ≡ true)
 components-parts n limit s at e = both-true (componentForm limit s at) (componentsForm n limit s (behind s at)) e

@@ -1,4 +1,4 @@
--- What stands at a place is what stands at the beginning of the bytes from that place on.
+-- What is at a place is what is at the beginning of the bytes from that place on.
 use Prim.Native.Nat.{ℕ, zero, suc, _+_, min}
 use mathlib.Core.Path.{_≡_, refl}
 use mathlib.Core.List.{List}
@@ -35,13 +35,13 @@ module _ (s : List ℕ) (at : ℕ) where
   unfolding componentMarks
   marks-from = rw (u16-from, u16-drop at s 2)
 
--- Object records, one behind the other.
+-- Object records, one after the other.
 pub objects-from : (n : ℕ) (s : List ℕ) (at : ℕ) → objectsAt n s at ≡ objectsAt n (drop at s) 0
 objects-from zero s at = refl
 objects-from (suc n) s at =
     rw (object-from s at, objects-from n s (at + 16), objects-from n (drop at s) 16, drop-drop 16 at s)
 
--- The form of object records, one behind the other.
+-- The form of object records, one after the other.
 pub objects-form-from : (n : ℕ) (s : List ℕ) (at : ℕ) → objectsForm n s at ≡ objectsForm n (drop at s) 0
 objects-form-from zero s at = refl
 objects-form-from (suc n) s at =

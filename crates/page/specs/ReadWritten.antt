@@ -1,4 +1,4 @@
--- What is read is written again: "rewriting a reading gives the same bytes ..". What stands in a page that has its form
+-- What is read is written again: "rewriting a reading gives the same bytes ..". What is in a page that has its form
 -- is written as the bytes that it was read from, and fits a page. Each component is to have at most 16 object records,
 -- as all are that keep refusal 6's rule.
 use Prim.Native.Nat.{ℕ, zero, suc, _+_, _*_, _^_, _≤_, _<_, min}
@@ -35,7 +35,7 @@ use Rattle.page.specs.FormLaws.{length-components, form-room, form-head,
 use Rattle.page.specs.FormLaws.{page-by, page-ends}
 use Rattle.page.specs.PlaceLaws.{object-from, object-form-from, marks-from, component-from}
 
--- Two parts of the bytes, one behind the other, are one.
+-- Two parts of the bytes, one after the other, are one.
 joined : (s : List ℕ) (at n m : ℕ) {a b : List ℕ} → a ≡ take n (drop at s) → b ≡ take m (drop (at + n) s)
     → a ++ b ≡ take (n + m) (drop at s)
 joined s at n m p q = rw (p, q, take-add n m (drop at s), drop-drop n at s)
@@ -77,7 +77,7 @@ module _ (s : List ℕ) (b : AreBytes s) (h : 40 ≤ length s) where
       joined s 0 16 24 (joined s 0 12 4 (joined s 0 8 4 four size) first) three
 
 module _ (s : List ℕ) (b : AreBytes s) where
-  -- The bytes from a place on are those of the object record there, and those behind it.
+  -- The bytes from a place on are those of the object record there, and those after it.
   object-again : (at : ℕ) → at + 16 ≤ length s → objectForm s at ≡ true
       → drop at s ≡ objectBytes (objectAt s at) ++ drop (at + 16) s
   object-again at h e =
@@ -86,7 +86,7 @@ module _ (s : List ℕ) (b : AreBytes s) where
       let w = object-first u (bytes-drop at s b) n (rw (object-form-from s at) at e) in
       rw (object-from s at, ← drop-drop 16 at s, w) (sym (take-append-drop 16 u))
 
-  -- The same of object records, one behind the other.
+  -- The same of object records, one after the other.
   objects-again : (n at : ℕ) → at + 16 * n ≤ length s → objectsForm n s at ≡ true
       → drop at s ≡ objectsBytes (objectsAt n s at) ++ drop (at + 16 * n) s
   objects-again zero at h e = rw add-zero
@@ -118,7 +118,7 @@ each-below number m s z h zero at i = z
 each-below number m s z h (suc n) at zero = h at
 each-below number m s z h (suc n) at (suc i) = each-below number m s z h n (at + 16) i
 
--- The component at a place, where it is to have at most 16 object records.
+-- The component at a place, if it is to have at most 16 object records.
 module _ (s : List ℕ) (at : ℕ) (few : recordCount (componentAt s at) ≤ 16) where
   few-at : recordsAt s at ≤ 16
   unfolding componentAt recordsAt
@@ -127,7 +127,7 @@ module _ (s : List ℕ) (at : ℕ) (few : recordCount (componentAt s at) ≤ 16)
   kept-at : objectsAt (min 16 (recordsAt s at)) s (at + 40) ≡ objectsAt (recordsAt s at) s (at + 40)
   kept-at = rw (min-eq-right few-at)
 
-  -- Its object records are those that stand behind it.
+  -- Its object records are those that are after it.
   pub read-records : recordsOf (componentAt s at) ≡ objectsAt (recordsAt s at) s (at + 40)
   unfolding componentAt recordsAt
   read-records =
@@ -141,7 +141,7 @@ module _ (s : List ℕ) (at : ℕ) (few : recordCount (componentAt s at) ≤ 16)
   pub read-whole : length (recordsOf (componentAt s at)) ≡ recordsAt s at
   read-whole = rw read-records (length-objects-at (recordsAt s at) s (at + 40))
 
-  -- It ends behind the bytes that it takes.
+  -- It ends after the bytes that it takes.
   pub read-behind : behind s at ≡ at + sizeOf (componentAt s at)
   read-behind = omega (arith, read-whole)
 
@@ -151,7 +151,7 @@ module _ (s : List ℕ) (at : ℕ) (few : recordCount (componentAt s at) ≤ 16)
   read-trimmed = rw (read-records, kept-at)
 
   module _ (b : AreBytes s) where
-    -- It is written as the bytes that it stands in.
+    -- It is written as the bytes that it is in.
     pub read-component : (limit : ℕ) → limit ≤ length s → componentForm limit s at ≡ true
         → drop at s ≡ componentBytes (componentAt s at) ++ drop (behind s at) s
     unfolding componentForm componentBytes
@@ -190,8 +190,8 @@ module _ (s : List ℕ) (at : ℕ) (few : recordCount (componentAt s at) ≤ 16)
 abbrev pub componentsAt : ℕ → List ℕ → ℕ → List Component
 componentsAt n s at = map (componentAt s) (placesFrom n s at)
 
--- Components one behind the other, each of them to have at most 16 object records: they are written as the bytes that
--- they stand in.
+-- Components one after the other, each of them to have at most 16 object records: they are written as the bytes that
+-- they are in.
 pub read-each : (n : ℕ) (s : List ℕ) (at : ℕ) → Few (componentsAt n s at) → AreBytes s → (limit : ℕ) → limit ≤ length s
     → componentsForm n limit s at ≡ true → drop at s ≡ componentsBytes (componentsAt n s at) ++ drop (endFrom n s at) s
 read-each zero s at f b limit h e = refl
@@ -200,7 +200,7 @@ read-each (suc n) s at f b limit h e =
     let r = read-each n s (behind s at) (f .1) b limit h (p .1) in
     read-component s at (f .0) b limit h (p .0) ∙ rw (r, append-assoc)
 
--- They end behind the bytes that they take.
+-- They end after the bytes that they take.
 pub read-ends : (n : ℕ) (s : List ℕ) (at : ℕ) → Few (componentsAt n s at)
     → endFrom n s at ≡ at + total (componentsAt n s at)
 read-ends zero s at f = omega arith
@@ -242,13 +242,13 @@ head-first s b h e =
     let four = joined s 0 6 2 (joined s 0 4 2 (joined s 0 2 2 mark flags) number) count in
     joined s 0 12 4 (joined s 0 8 4 four generation) zeros
 
--- The page at the beginning of the bytes, whatever stands behind it.
+-- The page at the beginning of the bytes, whatever is after it.
 module _ (s : List ℕ) (few : Few (componentsOf s)) where
   few-from : Few (componentsAt (counted s) s 16)
   unfolding componentsOf
   few-from = few
 
-  -- It ends behind the bytes that it takes.
+  -- It ends after the bytes that it takes.
   pub read-end : pageEnd s ≡ 16 + total (componentsOf s)
   unfolding componentsOf
   read-end = read-ends (counted s) s 16 few-from
@@ -258,7 +258,7 @@ module _ (s : List ℕ) (few : Few (componentsOf s)) where
   unfolding componentsOf
   trimmed-read = read-all-trimmed (counted s) s 16 few-from
 
-  -- It is written as the bytes that it stands in.
+  -- It is written as the bytes that it is in.
   pub read-page : AreBytes s → (limit : ℕ) → limit ≤ length s → formBy limit s ≡ true
       → s ≡ pageBytes (headOf s) (componentsOf s) ++ drop (pageEnd s) s
   unfolding pageBytes componentsOf

@@ -15,7 +15,7 @@ use Rattle.layout.specs.FactLaws.{kind-few}
 use Rattle.page.specs.declared.Head.{Head}
 
 -- The component with the unused places of its object array blank. A page holds this much of a component: the object
--- records are written, and what stands in the places past them is not.
+-- records are written, and what is in the places past them is not.
 abbrev pub trimmed : Component → Component
 trimmed c =
     record {

@@ -1,4 +1,4 @@
--- What is written is read: "What the writer writes reads back to the same layout". Where the bytes from a place on
+-- What is written is read: "What the writer writes reads back to the same layout". If the bytes from a place on
 -- begin with those of a component, that component is read at the place, the unused places of its object array blank.
 use Prim.Native.Nat.{ℕ, suc, _+_, _^_, _≤_, _<_, min}
 use mathlib.Core.Path.{_≡_, refl, sym, ap, _∙_}
@@ -94,7 +94,7 @@ module _ (c : Component) (t : List ℕ) where
   unfolding componentMarks
   marks-read = rw (mark-read, flags-read, word-only (c .init) (c .extension))
 
--- A component at the beginning of the bytes, its object records behind it.
+-- A component at the beginning of the bytes, its object records after it.
 module _ (c : Component) (t : List ℕ) (f : Fits c) where
   abbrev written : List ℕ
   written = fieldBytes c ++ (objectsBytes (recordsOf c) ++ t)
@@ -134,7 +134,7 @@ module _ (c : Component) (t : List ℕ) (f : Fits c) where
         objects = packObjects (behind-read i);
       }
 
--- A component at a place, where the bytes from the place on begin with its bytes. (Behind bytes p the place is length
+-- A component at a place, if the bytes from the place on begin with its bytes. (After bytes p the place is length
 -- p, and the hypothesis is `drop-append-seam p (componentBytes c ++ t)` of lib.Seq.)
 module _ (s : List ℕ) (at : ℕ) (c : Component) (t : List ℕ) (e : drop at s ≡ componentBytes c ++ t) (f : Fits c) where
   begins : drop at s ≡ fieldBytes c ++ (objectsBytes (recordsOf c) ++ t)
@@ -157,7 +157,7 @@ module _ (s : List ℕ) (at : ℕ) (c : Component) (t : List ℕ) (e : drop at s
   pub written-component : componentAt s at ≡ trimmed c
   written-component = rw (component-from s at, begins) (component-first c t f)
 
-  -- It ends behind its bytes.
+  -- It ends after its bytes.
   pub written-behind : behind s at ≡ at + sizeOf c
   written-behind = rw written-records (omega (arith, f .whole))
 
@@ -167,12 +167,12 @@ module _ (s : List ℕ) (at : ℕ) (c : Component) (t : List ℕ) (e : drop at s
   written-form limit h =
       true-both (true-both (le-leb (behind s at) limit (rw written-behind h)) written-marks) written-objects
 
-  -- Behind it stands what stood behind its bytes.
+  -- After it is what was after its bytes.
   pub written-rest : drop (behind s at) s ≡ t
   written-rest =
       rw (written-behind, ← drop-drop (sizeOf c) at s, e) (drop-at (componentBytes c) t (sizeOf c) (length-component c))
 
--- Components one behind the other, where the bytes from a place on begin with their bytes: they have their form, where
+-- Components one after the other, if the bytes from a place on begin with their bytes: they have their form, if
 -- they end by the limit.
 pub written-forms : (cs : List Component) (s : List ℕ) (at : ℕ) (t : List ℕ) → drop at s ≡ componentsBytes cs ++ t
     → AllFit cs → (limit : ℕ) → at + total cs ≤ limit → componentsForm (length cs) limit s at ≡ true
@@ -193,7 +193,7 @@ written-each (c ∷ cs) s at t e f =
     let b : drop at s ≡ componentBytes c ++ r = e ∙ append-assoc (componentBytes c) (componentsBytes cs) t in
     rw (written-component s at c r b (f .0), written-each cs s (behind s at) t (written-rest s at c r b (f .0)) (f .1))
 
--- They end behind their bytes.
+-- They end after their bytes.
 pub written-ends : (cs : List Component) (s : List ℕ) (at : ℕ) (t : List ℕ) → drop at s ≡ componentsBytes cs ++ t
     → AllFit cs → endFrom (length cs) s at ≡ at + total cs
 written-ends [] s at t e f = omega arith
@@ -229,7 +229,7 @@ module _ (h : Head) (t : List ℕ) where
   unfolding u32At headBytes words u16Bytes u32Bytes
   head-generation b = le-enc 2 (h .generation) [] b
 
--- A page at the beginning of the bytes, whatever stands behind it.
+-- A page at the beginning of the bytes, whatever is after it.
 module _ (h : Head) (cs : List Component) (t : List ℕ) (f : FitsHead h (length cs)) where
   page-begins : pageBytes h cs ++ t ≡ headBytes h ++ (componentsBytes cs ++ t)
   unfolding pageBytes
@@ -273,7 +273,7 @@ module _ (h : Head) (cs : List Component) (t : List ℕ) (f : FitsHead h (length
     unfolding componentsOf
     written-components = rw written-count (written-each cs (pageBytes h cs ++ t) 16 t page-rest a)
 
-    -- It ends behind its bytes.
+    -- It ends after its bytes.
     pub written-end : pageEnd (pageBytes h cs ++ t) ≡ 16 + total cs
     written-end = rw written-count (written-ends cs (pageBytes h cs ++ t) 16 t page-rest a)
 

@@ -1,4 +1,4 @@
-// What stands at a place of a page.
+// What is at a place of a page.
 use crate::Head;
 use layout::Component;
 use layout::NO_OBJECT;

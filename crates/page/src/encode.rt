@@ -83,7 +83,7 @@ pub fn size_of(c: Component) -> usize
     40 + 16 * layout::fields::record_count(c)
 }
 
-// Writes a component at the place, behind it its object records, and tells where they end.
+// Writes a component at the place, after it its object records, and tells where they end.
 pub fn put_component(buffer: &mut [u8], at: usize, c: Component) -> usize
     requires { ⌜ at + sizeOf c ≤ length (now buffer) ⌝ }
     ensures { λ r. ⌜ (r ≡ at + sizeOf c)

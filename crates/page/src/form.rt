@@ -38,7 +38,7 @@ pub fn component_marks(s: &[u8], at: usize) -> bool
     (bytes_le::u16_at(s, at) == crate::COMPONENT_MARK) & bytes_le::flags::only_first_two(flags)
 }
 
-// The number of object records behind the component at the place: the stripe count where init is set, else none.
+// The number of object records after the component at the place: the stripe count if init is set, else none.
 pub fn record_count(s: &[u8], at: usize) -> usize
     requires { ⌜ at + 40 ≤ length (now s) ⌝ }
     ensures { λ r. ⌜ (r ≡ recordsAt (now (s .entry)) at) × (r < 65536) ⌝ }

@@ -1,5 +1,5 @@
 // One page: its form, what it says, and how it is written. A page is walked once: the walk checks the form and notes
-// the places of the components; what stands at a place is then decoded with no further test.
+// the places of the components; what is at a place is then decoded with no further test.
 pub mod decode;
 pub mod encode;
 pub mod form;

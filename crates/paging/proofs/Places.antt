@@ -1,4 +1,4 @@
--- What `write_page` computes from the array of sizes, in the terms of the definitions: the components of the page stand
+-- What `write_page` computes from the array of sizes, in the terms of the definitions: the components of the page are
 -- from `from` up to `to`, and its bytes are those of its head and theirs.
 use Prim.Native.Nat.{ℕ, zero, suc, _+_, _-_, _≤_, _<_}
 use mathlib.Core.Path.{_≡_, sym, _∙_}
@@ -28,13 +28,13 @@ take-slice m zero l = rw zero-add
 take-slice m (suc f) [] = rw (take-nil m, take-nil (suc f + m))
 take-slice m (suc f) (x ∷ l) = rw suc-add (take-slice m f l)
 
--- The head and behind it the components: both calls have written the page.
+-- The head and after it the components: both calls have written the page.
 pub page-stored : (b b₁ b₂ : List ℕ) (h : Head) (cs : List Component) → b₁ ≡ sets b 0 (headBytes h)
     → b₂ ≡ sets b₁ 16 (componentsBytes cs) → b₂ ≡ sets b 0 (pageBytes h cs)
 unfolding pageBytes
 page-stored b b₁ b₂ h cs p q = q ∙ rw (p, sets-append, length-head)
 
--- What stands in page k, which is not refused by 4: the components from place `from` up to place `to`.
+-- What is in page k, which is not refused by 4: the components from place `from` up to place `to`.
 pub record Page (l : Layout) (k from to : ℕ) (sizes : List ℕ) : Type 0 where
   pub number : k < 16
   pub places : to ≤ 16
@@ -67,17 +67,17 @@ module _ (l : Layout) (v : Valid l) (sizes : List ℕ)
     from-page : fromPage k (view l) ≡ drop from (view l)
     from-page = rw (first, taken)
 
-    -- There is a page k where a component is left for it.
+    -- There is a page k if a component is left for it.
     some : from < l .count → isSome (fromPage k (view l)) ≡ true
     some n = rw (from-page, isSome-drop, v .whole) (lt-ltb from (l .count) n)
 
-    -- Refusal 4: there is no page k where no component is left for it.
+    -- Refusal 4: there is no page k if no component is left for it.
     pub no-page : (room : ℕ) → l .count ≤ from → writeRefusal l k room ≡ 4
     unfolding writeRefusal
     no-page room n = rw (from-page, isSome-drop, v .whole, le-ltb from (l .count) n)
 
     module _ (to : ℕ) (last : to ≡ from + inPage (slice from (l .count) sizes)) (h : to ≤ l .count) where
-      -- The place behind the components of page k.
+      -- The place after the components of page k.
       in-page : from + inPage (sizesOf (drop from (view l))) ≡ to
       in-page = sym (last ∙ rw (taken, sizes-drop))
 
@@ -85,7 +85,7 @@ module _ (l : Layout) (v : Valid l) (sizes : List ℕ)
       page-is : firstPage (fromPage k (view l)) ≡ slice from to (l .components)
       page-is = rw (from-page, take-slice, in-page, take-take to (l .count) (l .components) h)
 
-      -- The components behind page k.
+      -- The components after page k.
       later-is : laterPages (fromPage k (view l)) ≡ drop to (view l)
       later-is = rw (from-page, drop-drop, in-page)
 
@@ -104,7 +104,7 @@ module _ (l : Layout) (v : Valid l) (sizes : List ℕ)
       size-is : length (writtenPage l k) ≡ 16 + sum (slice from to sizes)
       size-is = length-written l k ∙ rw (page-is, total-sum, sizes-slice from to h)
 
-      -- Refusal 20 applies where the buffer is shorter than page k, and none where it is not.
+      -- Refusal 20 applies if the buffer is shorter than page k, and none if it is not.
       too-short : (room : ℕ) → from < l .count → room < 16 + sum (slice from to sizes) → writeRefusal l k room ≡ 20
       unfolding writeRefusal
       too-short room n s = rw (some n, lt-leb (length (writtenPage l k)) room (omega (arith, size-is)))
@@ -113,7 +113,7 @@ module _ (l : Layout) (v : Valid l) (sizes : List ℕ)
       unfolding writeRefusal
       long-enough room n s = rw (some n, le-leb (length (writtenPage l k)) room (omega (arith, size-is)))
 
-      -- All of this, where a component is left for page k.
+      -- All of this, if a component is left for page k.
       pub page-at : from < l .count → Page l k from to sizes
       page-at n =
           record {

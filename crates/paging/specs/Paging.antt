@@ -1,4 +1,4 @@
--- Which components stand in which page when a layout is written, and what a call that writes a page gives.
+-- Which components are in which page when a layout is written, and what a call that writes a page gives.
 use Prim.Native.Nat.{ℕ, zero, suc, _+_, _-_}
 use mathlib.Core.List.{List, [], _∷_, map}
 use mathlib.Core.Bool.{Bool, true, false, cond}
@@ -29,7 +29,7 @@ sum (size ∷ sizes) = size + sum sizes
 abbrev pub inPage : List ℕ → ℕ
 inPage sizes = fitting 496 sizes
 
--- How many components stand before page k.
+-- How many components are before page k.
 abbrev pub pageStart : ℕ → List ℕ → ℕ
 pageStart zero sizes = 0
 pageStart (suc k) sizes = inPage sizes + pageStart k (drop (inPage sizes) sizes)
@@ -46,7 +46,7 @@ fromPage k cs = drop (pageStart k (sizesOf cs)) cs
 abbrev pub firstPage : List Component → List Component
 firstPage cs = take (inPage (sizesOf cs)) cs
 
--- The components behind the first page.
+-- The components after the first page.
 abbrev pub laterPages : List Component → List Component
 laterPages cs = drop (inPage (sizesOf cs)) cs
 
@@ -55,12 +55,12 @@ abbrev pub isSome : List Component → Bool
 isSome [] = false
 isSome (c ∷ cs) = true
 
--- The head of page k where `cs` are the components from that page on: "more" says that components are left for later
+-- The head of page k if `cs` are the components from that page on: "more" says that components are left for later
 -- pages.
 abbrev pub headFor : ℕ → ℕ → List Component → Head
 headFor g k cs = record { more = isSome (laterPages cs); number = k; count = length (firstPage cs); generation = g }
 
--- The bytes of page k where `cs` are the components from that page on.
+-- The bytes of page k if `cs` are the components from that page on.
 abbrev pub pageFrom : ℕ → ℕ → List Component → List ℕ
 pageFrom g k cs = pageBytes (headFor g k cs) (firstPage cs)
 
@@ -73,7 +73,7 @@ writtenPage l k = pageFrom (l .generation) k (fromPage k (view l))
 unfoldable pub writeRefusal : Layout → ℕ → ℕ → ℕ
 writeRefusal l k room = cond (isSome (fromPage k (view l))) (cond (leb (length (writtenPage l k)) room) 0 20) 4
 
--- The same of any layout, 1 where it is not valid: the lowest number whose condition holds.
+-- The same of any layout, 1 if it is not valid: the lowest number whose condition holds.
 unfoldable pub outRefusal : Layout → ℕ → ℕ → ℕ
 outRefusal l k room = cond (valid l) (writeRefusal l k room) 1
 
@@ -82,7 +82,7 @@ unfoldable pub outAnswer : ℕ → List ℕ → PageOut
 outAnswer zero page = Written (length page)
 outAnswer (suc n) page = Refused (suc n)
 
--- The number that an answer stands for: that of the refusal, and 0 where the page was written.
+-- The number that an answer means: that of the refusal, and 0 if the page was written.
 unfoldable pub outNumber : PageOut → ℕ
 outNumber (Written bytes) = 0
 outNumber (Refused n) = n

@@ -22,7 +22,7 @@ use Rattle.page.specs.Same.{Few, fields-few}
 use Rattle.paging.specs.Paging.{fitting, inPage, sum, pageStart, sizesOf, fromPage, firstPage, laterPages}
 use Rattle.paging.specs.Paging.{isSome, headFor, writtenPage, outAnswer, outNumber, outBuffer}
 
--- Each size is at most 496: a page has room for the component behind its head.
+-- Each size is at most 496: a page has room for the component after its head.
 abbrev pub Fit : List ℕ → Type 0
 Fit [] = Unit {0}
 Fit (size ∷ sizes) = (size ≤ 496) × Fit sizes
@@ -45,7 +45,7 @@ fitting-le room (size ∷ sizes) =
 pub inPage-le : (sizes : List ℕ) → inPage sizes ≤ length sizes
 inPage-le sizes = fitting-le 496 sizes
 
--- Where components are left, each of which a page has room for, at least one goes into the next page.
+-- If components are left, each of which a page has room for, at least one goes into the next page.
 pub inPage-some : (sizes : List ℕ) → Fit sizes → 1 ≤ length sizes → 1 ≤ inPage sizes
 inPage-some [] f h = absurd (omega arith)
 inPage-some (size ∷ sizes) f h = rw (le-leb size 496 (f .0)) (omega arith)
@@ -62,13 +62,13 @@ fitting-fits room (size ∷ sizes) =
 pub page-fits : (sizes : List ℕ) → 16 + sum (take (inPage sizes) sizes) ≤ 512
 page-fits sizes = omega (arith, fitting-fits 496 sizes)
 
--- No more components stand before a page than there are.
+-- No more components are before a page than there are.
 pub pageStart-le : (k : ℕ) (sizes : List ℕ) → pageStart k sizes ≤ length sizes
 pageStart-le zero sizes = omega arith
 pageStart-le (suc k) sizes =
     omega (arith, inPage-le sizes, pageStart-le k (drop (inPage sizes) sizes), length-drop (inPage sizes) sizes)
 
--- Before page k + 1 stand the components before page k and those of page k.
+-- Before page k + 1 are the components before page k and those of page k.
 pub pageStart-next : (k : ℕ) (sizes : List ℕ)
     → pageStart (suc k) sizes ≡ pageStart k sizes + inPage (drop (pageStart k sizes) sizes)
 pageStart-next zero sizes = omega arith
@@ -76,13 +76,13 @@ pageStart-next (suc k) sizes =
     let rest = drop (inPage sizes) sizes in
     ap (λ (n : ℕ). inPage sizes + n) (pageStart-next k rest) ∙ rw (drop-drop, ← add-assoc)
 
--- At least as many components stand before a later page.
+-- At least as many components are before a later page.
 pub pageStart-mono : (j k : ℕ) (sizes : List ℕ) → j ≤ k → pageStart j sizes ≤ pageStart k sizes
 pageStart-mono zero k sizes h = omega arith
 pageStart-mono (suc j) zero sizes h = absurd (omega arith)
 pageStart-mono (suc j) (suc k) sizes h = omega (arith, pageStart-mono j k (drop (inPage sizes) sizes) (omega arith))
 
--- Where page k has a component, at least k stand before it, since each page before it has at least one.
+-- If page k has a component, at least k are before it, since each page before it has at least one.
 pub page-number-le : (k : ℕ) (sizes : List ℕ) → Fit sizes → pageStart k sizes < length sizes → k ≤ pageStart k sizes
 page-number-le zero sizes f h = omega arith
 page-number-le (suc k) sizes f h =
@@ -91,7 +91,7 @@ page-number-le (suc k) sizes f h =
     let left : length (drop n sizes) ≡ length sizes - n = length-drop n sizes in
     omega (arith, page-number-le k (drop n sizes) (fit-drop n sizes f) (omega arith))
 
--- The sizes of the components behind the first n are the sizes behind the first n.
+-- The sizes of the components after the first n are the sizes after the first n.
 pub sizes-drop : (n : ℕ) (cs : List Component) → sizesOf (drop n cs) ≡ drop n (sizesOf cs)
 sizes-drop zero cs = refl
 sizes-drop (suc n) [] = refl
@@ -101,7 +101,7 @@ sizes-drop (suc n) (c ∷ cs) = sizes-drop n cs
 pub next-page : (k : ℕ) (cs : List Component) → fromPage (suc k) cs ≡ laterPages (fromPage k cs)
 next-page k cs = rw (pageStart-next k (sizesOf cs), ← drop-drop, sizes-drop)
 
--- The components of the first page and those behind it are all.
+-- The components of the first page and those after it are all.
 pub first-later : (cs : List Component) → firstPage cs ++ laterPages cs ≡ cs
 first-later cs = take-append-drop (inPage (sizesOf cs)) cs
 
@@ -131,7 +131,7 @@ few-fit (c ∷ cs) f = (omega (arith, length-take (recordCount c) (c .objects)),
 pub valid-fit : (l : Layout) → Valid l → Fit (sizesOf (view l))
 valid-fit l v = few-fit (view l) (fields-few (view l) (v .keeps .fields))
 
--- Components are left behind the first n exactly if there are more than n.
+-- Components are left after the first n exactly if there are more than n.
 pub isSome-drop : (n : ℕ) (cs : List Component) → isSome (drop n cs) ≡ ltb n (length cs)
 isSome-drop zero [] = sym (le-ltb 0 0 (omega arith))
 isSome-drop zero (c ∷ cs) = sym (lt-ltb 0 (length (c ∷ cs)) (omega arith))
@@ -147,13 +147,13 @@ number-few l k v e =
     ltb-true (pageStart k sizes) (length (view l)) (rw isSome-drop at e) in
     omega (arith, page-number-le k sizes (valid-fit l v) (omega (arith, v .whole)), v .whole, v .few)
 
--- The answer stands for the number of the refusal, or for 0.
+-- The answer means the number of the refusal, or 0.
 pub out-number : (n : ℕ) (page : List ℕ) → outNumber (outAnswer n page) ≡ n
 unfolding outNumber outAnswer
 out-number zero page = refl
 out-number (suc n) page = refl
 
--- Where a page was written, the first bytes of the buffer are the page,
+-- If a page was written, the first bytes of the buffer are the page,
 pub written-first : (page buffer : List ℕ) → length page ≤ length buffer
     → take (length page) (outBuffer 0 page buffer) ≡ page
 unfolding outBuffer

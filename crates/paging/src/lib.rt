@@ -54,7 +54,7 @@ fn page_end(sizes: [usize; 16], n: usize, from: usize) -> usize
     i
 }
 
-// The first of n components that stands in page `number` or a later one, or n.
+// The first of n components that is in page `number` or a later one, or n.
 fn page_start(sizes: [usize; 16], n: usize, number: u64) -> usize
     requires { ⌜ n ≤ 16 ⌝ }
     ensures { λ r. ⌜ (r ≡ pageStart number (take n sizes)) × (r ≤ n) ⌝ }
@@ -85,7 +85,7 @@ fn page_size(sizes: [usize; 16], from: usize, to: usize) -> usize
     bytes
 }
 
-// Writes the components `from` to `to`, which is not among them, behind the head.
+// Writes the components `from` to `to`, which is not among them, after the head.
 fn put_components(buffer: &mut [u8], l: Layout, from: usize, to: usize)
     requires { ⌜ (from ≤ to)
         × (to ≤ 16)
@@ -102,8 +102,8 @@ fn put_components(buffer: &mut [u8], l: Layout, from: usize, to: usize)
     }
 }
 
-// Writes page `number` of a layout that is known to be valid into the first bytes of the buffer; what stands behind
-// them stays. Refused by 4 where there is no such page, and by 20 where the buffer is shorter than the page: the buffer
+// Writes page `number` of a layout that is known to be valid into the first bytes of the buffer; what is after
+// them stays. Refused by 4 if there is no such page, and by 20 if the buffer is shorter than the page: the buffer
 // then stays as it was.
 pub fn write_page(l: Layout, number: u64, buffer: &mut [u8]) -> PageOut
     requires { ⌜ valid l ≡ true ⌝ }
@@ -133,7 +133,7 @@ pub fn write_page(l: Layout, number: u64, buffer: &mut [u8]) -> PageOut
     PageOut::Written(bytes)
 }
 
-// Writes page `number` of a layout into the first bytes of the buffer, by the same rules; refused by 1 where the layout
+// Writes page `number` of a layout into the first bytes of the buffer, by the same rules; refused by 1 if the layout
 // is not valid.
 pub fn page_out(l: Layout, number: u64, buffer: &mut [u8]) -> PageOut
     ensures { λ r. ⌜ (let refusal = outRefusal l number (length (now (buffer .entry))) in

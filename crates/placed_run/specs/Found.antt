@@ -1,4 +1,4 @@
--- What the reading in place gives: the number that reading into a layout gives and, where that is 0, the places of the layout's
+-- What the reading in place gives: the number that reading into a layout gives and, if that is 0, the places of the layout's
 -- components.
 use Prim.Native.Nat.{ℕ, _≤_}
 use mathlib.Core.Path.{_≡_, sym, ap, _∙_}
@@ -25,7 +25,7 @@ use Rattle.placed_run.specs.Placing.{placedRun, endRefusal, placedRefusa
 use Rattle.placed_run.specs.Progress.{placedOf, InRange}
 use Rattle.placed_run.specs.PlacingLaws.{run-alike}
 
--- The number is that of reading the host's bytes into a layout; where it is 0, that layout has the generation and the components
+-- The number is that of reading the host's bytes into a layout; if it is 0, that layout has the generation and the components
 -- at the first of the 16 places, and is valid.
 pub record Finds (s : List ℕ) (r : Found) (places : List ℕ) : Type 0 where
   pub refusal : r .refusal ≡ readRun hostCut s .refusal

@@ -92,7 +92,7 @@ module _ (s : List ℕ) (p : Progress) (places : List ℕ) (k : InRange s p plac
         → placedOf (numbered n p) after ≡ placedNext s so-far
     says-refused n e h = rw (next-refused s so-far n e h, same)
 
-  -- The page has its form, and its places are stored behind the others.
+  -- The page has its form, and its places are stored after the others.
   module _ (f : formBy (min 512 (length rest)) rest ≡ true) where
     pub whole-head : p .at + 16 ≤ length s
     whole-head = omega (arith, form-room (min 512 (length rest)) rest f, length-drop (p .at) s, k .reached)

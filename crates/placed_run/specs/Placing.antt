@@ -1,4 +1,4 @@
--- Reading the host's pages in place: what is noted of a page is where its components stand in the bytes. The rules of fields and
+-- Reading the host's pages in place: what is noted of a page is where its components are in the bytes. The rules of fields and
 -- of neighbours are asked page by page, distinctness once at the end.
 use Prim.Native.Nat.{ℕ, zero, suc, _+_, min}
 use mathlib.Core.List.{List, [], _++_}
@@ -26,8 +26,8 @@ pub record Placed : Type 0 where
 abbrev pub nonePlaced : Placed
 nonePlaced = record { refusal = 0; at = 0; pages = 0; generation = 0; more = true; places = [] }
 
--- The number of the refusal of the next page, or 0: 1 where no bytes are left, 3 to 5 as a collector gives them, and 6 or 7 by
--- the rules of fields and of neighbours, of the new components behind the old ones.
+-- The number of the refusal of the next page, or 0: 1 if no bytes are left, 3 to 5 as a collector gives them, and 6 or 7 by
+-- the rules of fields and of neighbours, of the new components after the old ones.
 unfoldable pub nextRefusal : List ℕ → Placed → ℕ
 nextRefusal s p =
     let t = drop (p .at) s in
@@ -88,7 +88,7 @@ placedOn (suc left) s p = cond (goesOn p) (placedOn left s (placedNext s p)) p
 unfoldable pub placedRun : List ℕ → Placed
 placedRun s = placedOn 17 s nonePlaced
 
--- The number of the refusal once no page is wanted, or 0: that of a page, else 2 where bytes stand behind the last page.
+-- The number of the refusal once no page is wanted, or 0: that of a page, else 2 if bytes are after the last page.
 abbrev pub endRefusal : List ℕ → Placed → ℕ
 endRefusal s p = cond (eqb (p .refusal) 0) (cond (leb (length s) (p .at)) 0 2) (p .refusal)
 

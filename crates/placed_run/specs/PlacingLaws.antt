@@ -39,7 +39,7 @@ use Rattle.placed_run.specs.Placing.{Placed, nonePlaced, nextRefusal, re
 use Rattle.placed_run.specs.Placing.{placedNext, goesOn, placedOn, placedRun, endRefusal, placedRefusal}
 use Rattle.placed_run.specs.ShiftLaws.{placed-components}
 
--- If the elements of two lists, one behind the other, all differ, those of the first do.
+-- If the elements of two lists, one after the other, all differ, those of the first do.
 fresh-first : {A : Type 0} (same : A → A → Bool) (xs ys : List A) → every (fresh same (xs ++ ys)) ≡ true
     → every (fresh same xs) ≡ true
 fresh-first same xs ys e =
@@ -61,7 +61,7 @@ module _ (s : List ℕ) where
   placed-stays zero p e = refl
   placed-stays (suc left) p e = rw e
 
-  -- Reading on only adds places behind those that are there.
+  -- Reading on only adds places after those that are there.
   next-adds : (p : Placed) (n : ℕ) → (ps : List ℕ) × (placedBy n s p .places ≡ p .places ++ ps)
   next-adds p zero = (pagePlaces (p .at) (drop (p .at) s), refl)
   next-adds p (suc n) = ([], sym (append-nil (p .places)))
@@ -76,7 +76,7 @@ module _ (s : List ℕ) where
       (a .0 ++ b .0, rw e (b .1 ∙ rw (a .1) (append-assoc (p .places) (a .0) (b .0)))))
       (λ e. ([], rw e (sym (append-nil (p .places)))))
 
-  -- The number at the end, where the components of the pages taken are distinct, and where they are not.
+  -- The number at the end, if the components of the pages taken are distinct, and if they are not.
   placed-distinct : (q : Placed) → distinctHold (componentsAt s (q .places)) ≡ true → placedRefusal s q ≡ endRefusal s q
   unfolding placedRefusal
   placed-distinct q e = ap (λ (b : Bool). cond b (endRefusal s q) 8) e
@@ -188,7 +188,7 @@ module _ (s : List ℕ) where
       unfolding contentRefusal
       asked-full = rw (m .pages, m .generation, count-is, length-components rest)
 
-      -- Where the number asked in place refuses, it is the collector's;
+      -- If the number asked in place refuses, it is the collector's;
       full-light : 0 < nextRefusal s p → contentRefusal c (headOf rest) new ≡ nextRefusal s p
       full-light h =
           bool-cases next-test
@@ -280,7 +280,7 @@ module _ (s : List ℕ) where
             layout = λ x. let y : _≡_ {A = ℕ} 8 0 = rw r at x in absurd (omega arith);
           }
 
-  -- What is asked in place where no bytes are left, and where the page has not its form.
+  -- What is asked in place if no bytes are left, and if the page has not its form.
   light-ended : (p : Placed) → eqb (length (drop (p .at) s)) 0 ≡ true → nextRefusal s p ≡ 1
   unfolding nextRefusal
   light-ended p e = rw e

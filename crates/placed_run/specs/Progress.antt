@@ -7,7 +7,7 @@ use Rattle.in_place.specs.Places.{Within}
 use Rattle.placed_run.specs.declared.Progress.{Progress}
 use Rattle.placed_run.specs.Placing.{Placed}
 
--- The places of the components stand in the first positions of the array, as many as the count.
+-- The places of the components are in the first positions of the array, as many as the count.
 abbrev pub placedOf : Progress → List ℕ → Placed
 placedOf p places =
     record {

@@ -1,4 +1,4 @@
--- What stands at a place of the bytes behind a position stands that much further in all bytes.
+-- What is at a place of the bytes after a position is that much further in all bytes.
 use Prim.Native.Nat.{ℕ, _+_, _-_}
 use mathlib.Core.Path.{_≡_, refl, sym, ap, _∙_}
 use mathlib.Core.List.{List, map, map-map}

@@ -1,5 +1,5 @@
-// Reads the host's pages in place. The pages stand back to back, each ending after the records that its head counts.
-// What is noted of a page is where its components stand in the bytes; no component is copied.
+// Reads the host's pages in place. The pages are back to back, each ending after the records that its head counts.
+// What is noted of a page is where its components are in the bytes; no component is copied.
 use page::Head;
 ghost use mathlib.Core.Path.{_≡_};
 ghost use mathlib.Core.List.{List};
@@ -22,7 +22,7 @@ pub struct Progress {
     pub count: usize,
 }
 
-// What reading gives: 0, the generation, and the number of components, whose places then stand in the first positions;
+// What reading gives: 0, the generation, and the number of components, whose places then are in the first positions;
 // or the number of the refusal.
 pub struct Found {
     pub refusal: u8,
@@ -38,7 +38,7 @@ fn at_most_512(n: usize) -> usize
 }
 
 // Walks over the page that begins at `at` and stores the places of its components from position n on, as far as there
-// are positions. Gives how many bytes the page has, or 0 where it has not its form: also where it would have more than
+// are positions. Gives how many bytes the page has, or 0 if it has not its form: also if it would have more than
 // 512.
 fn walk_next(s: &[u8], at: usize, n: usize, places: &mut [usize; 16]) -> usize
     requires { ⌜ (at ≤ length (now s)) × (n ≤ 16) × (length (now places) ≡ 16) ⌝ }
@@ -73,8 +73,8 @@ fn refused(p: Progress, number: u8) -> Progress
     }
 }
 
-// Takes the page that begins where the reading has come to. Refused by 1 where no bytes are left, by 3 to 5 as a
-// collector refuses it, and by 6 or 7 where its components break the rules of fields or of neighbours behind those
+// Takes the page that begins where the reading has come to. Refused by 1 if no bytes are left, by 3 to 5 as a
+// collector refuses it, and by 6 or 7 if its components break the rules of fields or of neighbours after those
 // taken before.
 fn take_next(s: &[u8], p: Progress, places: &mut [usize; 16]) -> Progress
     requires { ⌜ InRange (now s) p (now places) ⌝ }
@@ -131,8 +131,8 @@ fn read_on(s: &[u8], places: &mut [usize; 16]) -> Progress
     p
 }
 
-// The number of the refusal of a reading that wants no more pages, or 0: that of a page, else 2 where bytes stand
-// behind the last page.
+// The number of the refusal of a reading that wants no more pages, or 0: that of a page, else 2 if bytes are
+// after the last page.
 fn end_refusal(s: &[u8], p: Progress) -> u8
     ensures { λ r. ⌜ ((places : List ℕ) → r ≡ endRefusal (now (s .entry)) (placedOf p places)) ⌝ }
 {

@@ -1,5 +1,5 @@
 -- "The reader takes any paging": pages that are those of one layout in their order, however its components are divided
--- among them, are all taken by a new collector, and the last answers "complete", where their components together keep
+-- among them, are all taken by a new collector, and the last answers "complete", if their components together keep
 -- the rules. The theorem is `any-paging`, at the end.
 use Prim.Native.Nat.{ℕ, zero, suc, _+_, _≤_, _<_}
 use mathlib.Core.Path.{_≡_, refl, sym, ap, _∙_}
@@ -34,7 +34,7 @@ use Rattle.collector.specs.RunLaws.{new-held}
 use Rattle.round_trip.specs.Pages.{readPages}
 use Rattle.round_trip.specs.CompleteReading.{completed, componentsIn, somePages, ArePages, IsPage, some-in-page}
 
--- Components behind those of a layout whose unused places are blank give such a layout again.
+-- Components after those of a layout whose unused places are blank give such a layout again.
 joined-packed : (g old : ℕ) (xs ys : List Component) → joined g (packed old xs) ys ≡ packed g (xs ++ ys)
 unfolding packComponents
 joined-packed g old xs ys =
@@ -47,7 +47,7 @@ abbrev holding : ℕ → ℕ → List Component → Collector
 holding k g cs = record { pages = k; complete = false; layout = packed g cs }
 
 -- One page is taken by a collector that holds the components xs: the page has its form, its number is the next, and
--- the rules hold of xs and its components together, with pages outstanding where its head says so.
+-- the rules hold of xs and its components together, with pages outstanding if its head says so.
 page-taken : (k old : ℕ) (xs : List Component) (p : List ℕ) → Sound (holding k old xs) → pageForm p ≡ true
     → isNext k old (headOf p) ≡ true → length xs + length (componentsOf p) ≤ 16
     → ruleBroken (headOf p .more) (xs ++ componentsOf p) ≡ 0
@@ -64,7 +64,7 @@ page-taken k old xs p sound form next few rules =
     refused-open c p (facts-sound c sound) ∙ refused-content c p refl form ∙ content in
     rw (none, joined-packed (h .generation) old xs ys)
 
--- Refusal 4 does not apply: the page has the number that the collector waits for, and behind page 0 its generation.
+-- Refusal 4 does not apply: the page has the number that the collector waits for, and after page 0 its generation.
 next-number : (k old : ℕ) (h : Head) → h .number ≡ k → (0 < k → h .generation ≡ old) → isNext k old h ≡ true
 unfolding isNext
 next-number zero old h e f = rw (eq-eqb (h .number) 0 e)
@@ -79,7 +79,7 @@ unfolding numberOf
 read-next c p ps n true l e = rw e
 read-next c p ps n false l e = rw e
 
--- A collector that waits for more is sound where its components keep the rules with pages outstanding, are at most 16,
+-- A collector that waits for more is sound if its components keep the rules with pages outstanding, are at most 16,
 -- and are at least as many as the pages taken, none before page 0.
 sound-holding : (k g : ℕ) (xs : List Component) → k ≤ length xs → (k ≡ 0 → length xs ≡ 0) → length xs ≤ 16
     → Keeps true xs → Sound (holding k g xs)
@@ -94,8 +94,8 @@ sound-holding k g xs h z few keeps =
       kept = rw v (facts-keep true xs keeps);
     }
 
--- Page k is taken by a collector that waits for it, where the components gathered and those of the page together keep
--- the rules; the pages behind it are then taken by the collector that has these components.
+-- Page k is taken by a collector that waits for it, if the components gathered and those of the page together keep
+-- the rules; the pages after it are then taken by the collector that has these components.
 page-then : (g k old : ℕ) (xs : List Component) (p : List ℕ) (more : Bool) → IsPage g k more p
     → Sound (holding k old xs) → (0 < k → g ≡ old) → length (xs ++ componentsOf p) ≤ 16
     → Keeps more (xs ++ componentsOf p) → (ps : List (List ℕ))
@@ -141,9 +141,9 @@ pages-then g (p ∷ q ∷ ps) k old xs a some sound h same few keeps =
 -- "The reader takes any paging". The pages `ps`, at least one, are those of one layout of generation g in their order
 -- (`ArePages g 0 ps`: each has the form of a page, the number of its place, generation g, and says that pages follow it
 -- exactly if it is not the last), and together they have at most 16 components, which keep the rules. How many
--- components stand in each page is free: nothing asks that a page be as full as the writer makes it. Taken one after
+-- components are in each page is free: nothing asks that a page be as full as the writer makes it. Taken one after
 -- another from a new collector, the pages are all taken, and the last answers "complete"; the collector then holds the
--- layout of generation g with the components of the pages, one page behind the other.
+-- layout of generation g with the components of the pages, one page after the other.
 pub any-paging : (g : ℕ) (ps : List (List ℕ)) → ArePages g 0 ps → somePages ps ≡ true → length (componentsIn ps) ≤ 16
     → Keeps false (componentsIn ps)
     → readPages newCollector ps

@@ -35,11 +35,11 @@ use Rattle.collector.specs.RunLaws.{new-held}
 use Rattle.paging.specs.Paging.{isSome}
 use Rattle.round_trip.specs.Pages.{readPages}
 
--- What taking pages gives where the last of them completes the collector: the answer "complete", and the collector c.
+-- What taking pages gives if the last of them completes the collector: the answer "complete", and the collector c.
 abbrev pub completed : Collector → Taken
 completed c = record { answer = Complete; collector = c }
 
--- The components of pages, one page behind the other.
+-- The components of pages, one page after the other.
 abbrev pub componentsIn : List (List ℕ) → List Component
 componentsIn [] = []
 componentsIn (p ∷ ps) = componentsOf p ++ componentsIn ps
@@ -65,7 +65,7 @@ ArePages g k (p ∷ ps) = IsPage g k (somePages ps) p × ArePages g (suc k) ps
 pub record WholeReading (c₀ c : Collector) (ps : List (List ℕ)) : Type 0 where
   -- The pages are those of one layout from the next page on, of the generation that the collector has at the end.
   pub pages : ArePages (c .layout .generation) (c₀ .pages) ps
-  -- Their components stand behind those gathered before.
+  -- Their components are after those gathered before.
   pub components : gathered c ≡ gathered c₀ ++ componentsIn ps
   -- There are pages exactly if the collector was not complete.
   pub wanted : somePages ps ≡ not (c₀ .complete)
@@ -92,7 +92,7 @@ page-taken c p e =
     (λ f. let z : 3 ≡ 0 = sym (refused-3 c p y f) ∙ o in absurd (omega arith))))
     (λ x. let z : 1 ≡ 0 = sym (refused-1 c p x) ∙ e in absurd (omega arith))
 
--- A page that is the next has the next number, and behind page 0 the generation of page 0.
+-- A page that is the next has the next number, and after page 0 the generation of page 0.
 module _ (pages g : ℕ) (h : Head) (e : isNext pages g h ≡ true) where
   next-number : h .number ≡ pages
   unfolding isNext
@@ -192,7 +192,7 @@ pages-at-most g k (p ∷ ps) a =
     let one = some-in-page p (a .0 .form) in
     omega (arith, pages-at-most g (suc k) ps (a .1), length-append (componentsOf p) (componentsIn ps))
 
--- Where there are pages, there is at least one.
+-- If there are pages, there is at least one.
 pages-some : (ps : List (List ℕ)) → somePages ps ≡ true → 1 ≤ length ps
 pages-some [] e = let z : _≡_ {A = ℕ} 0 1 = cc in absurd (omega arith)
 pages-some (p ∷ ps) e = omega arith
@@ -247,7 +247,7 @@ module _ (ps : List (List ℕ)) (c : Collector)
   pub reading-pages : ArePages (layoutOut c .layout .generation) 0 ps
   reading-pages = rw reading-out (whole-reading .pages)
 
-  -- The components of the layout that is given are those of the pages, one page behind the other.
+  -- The components of the layout that is given are those of the pages, one page after the other.
   pub reading-view : view (layoutOut c .layout) ≡ componentsIn ps
   reading-view =
       rw reading-out (view-pack (c .layout .generation) (gathered c) gathered-few ∙ whole-reading .components)

@@ -26,7 +26,7 @@ use Rattle.paging.specs.PagingLaws.{Fit, fit-drop, inPage-le, inPage-some, page
 use Rattle.paging.specs.PagingLaws.{page-number-le, sizes-drop, total-sum, written-le, valid-fit, isSome-drop}
 use Rattle.round_trip.specs.Pages.{writtenFrom, writtenPages}
 
--- How many components of a layout stand before page k.
+-- How many components of a layout are before page k.
 abbrev pub startOf : Layout → ℕ → ℕ
 startOf l k = pageStart k (sizesOf (view l))
 
@@ -45,11 +45,11 @@ first-room cs =
 pub page-room : (l : Layout) (k : ℕ) → length (writtenPage l k) ≤ 512
 page-room l k = written-le l k
 
--- There is a page k exactly if fewer components stand before it than there are.
+-- There is a page k exactly if fewer components are before it than there are.
 pub page-there : (l : Layout) (k : ℕ) → isSome (fromPage k (view l)) ≡ ltb (startOf l k) (length (view l))
 page-there l k = isSome-drop (startOf l k) (view l)
 
--- Where a valid layout has a page k,
+-- If a valid layout has a page k,
 module _ (l : Layout) (v : Valid l) (k : ℕ) (has : startOf l k < length (view l)) where
   -- that page has a component;
   pub page-some : 1 ≤ length (firstPage (fromPage k (view l)))
@@ -60,7 +60,7 @@ module _ (l : Layout) (v : Valid l) (k : ℕ) (has : startOf l k < length (view 
       let some : 1 ≤ length (sizesOf rest) = omega (arith, length-map rest sizeOf, length-drop n (view l)) in
       omega (arith, length-first rest, inPage-some (sizesOf rest) fit some)
 
-  -- more components stand before the next page;
+  -- more components are before the next page;
   pub start-rises : startOf l k < startOf l (suc k)
   start-rises =
       let rest = fromPage k (view l) in
@@ -68,21 +68,21 @@ module _ (l : Layout) (v : Valid l) (k : ℕ) (has : startOf l k < length (view 
       pageStart-next k (sizesOf (view l)) ∙ rw (sizes-drop (startOf l k) (view l)) in
       omega (arith, page-some, length-first rest)
 
-  -- and at least k stand before it, since each page before it has one.
+  -- and at least k are before it, since each page before it has one.
   pub number-le : k ≤ startOf l k
   number-le = page-number-le k (sizesOf (view l)) (valid-fit l v) (omega (arith, length-map (view l) sizeOf))
 
--- Where there is a page k, the pages from there on begin with it.
+-- If there is a page k, the pages from there on begin with it.
 pub written-cons : (n k : ℕ) (l : Layout) → isSome (fromPage k (view l)) ≡ true
     → writtenFrom (suc n) k l ≡ writtenPage l k ∷ writtenFrom n (suc k) l
 written-cons n k l e = rw e
 
--- Where there is no page k, there are no pages from there on.
+-- If there is no page k, there are no pages from there on.
 pub written-nil : (n k : ℕ) (l : Layout) → isSome (fromPage k (view l)) ≡ false → writtenFrom n k l ≡ []
 written-nil zero k l e = refl
 written-nil (suc n) k l e = rw e
 
--- At place j of the pages from page k on stands page k + j.
+-- At place j of the pages from page k on is page k + j.
 listed-from : (n k j : ℕ) (l : Layout) → j < length (writtenFrom n k l)
     → getD (writtenFrom n k l) j [] ≡ writtenPage l (k + j)
 listed-from zero k j l h = absurd (omega arith)
@@ -101,7 +101,7 @@ pub page-listed : (l : Layout) (k : ℕ) → k < length (writtenPages l) → get
 unfolding writtenPages
 page-listed l k h = listed-from 16 0 k l h ∙ rw zero-add
 
--- Where no component is left for page k, there is no page from there on, and the list from there on has none.
+-- If no component is left for page k, there is no page from there on, and the list from there on has none.
 none-from : (l : Layout) (n k j : ℕ) → length (view l) ≤ startOf l k
     → isSome (fromPage (k + j) (view l)) ≡ ltb j (length (writtenFrom n k l))
 none-from l n k j h =
@@ -110,7 +110,7 @@ none-from l n k j h =
     let none : writtenFrom n k l ≡ [] = written-nil n k l (page-there l k ∙ le-ltb (startOf l k) len h) in
     rw (page-there l (k + j), le-ltb (startOf l (k + j)) len over, none) (sym (le-ltb j 0 (omega arith)))
 
--- There is a page k + j exactly if the list from page k on has a place j, where its limit n is not below the number of
+-- There is a page k + j exactly if the list from page k on has a place j, provided its limit n is not below the number of
 -- components that are left.
 pages-from : (l : Layout) → Valid l → (n k j : ℕ) → length (view l) ≤ startOf l k + n
     → isSome (fromPage (k + j) (view l)) ≡ ltb j (length (writtenFrom n k l))

@@ -1,7 +1,7 @@
 -- Pages in one run of bytes: back to back, as the host gives them, or each after its length, as the listing reads them.
--- A run is read as its pages are taken one after another: to the same layout where the last of them completes the
--- collector, and to the numbers that the paper states where pages are outstanding or bytes stand behind the last page.
--- The theorems are `host-reads` and `listed-reads`, near the end, and those behind them. (`readRun` and the two ways to
+-- A run is read as its pages are taken one after another: to the same layout if the last of them completes the
+-- collector, and to the numbers that the paper states if pages are outstanding or bytes are after the last page.
+-- The theorems are `host-reads` and `listed-reads`, near the end, and those after them. (`readRun` and the two ways to
 -- cut the next page from the bytes, `hostCut` and `listedCut`, are defined in the collector's `Runs`.)
 use Prim.Native.Nat.{ℕ, _+_, _<_}
 use mathlib.Core.Path.{_≡_, refl, sym, ap, subst, _∙_}
@@ -40,7 +40,7 @@ use Rattle.round_trip.specs.InMemory.{InMemory}
 use Rattle.round_trip.specs.WriteThenRead.{written-read-back, written-given-back}
 use Rattle.round_trip.specs.CompleteReading.{answered-complete}
 
--- The pages one behind the other: "the layout as pages back to back".
+-- The pages one after the other: "the layout as pages back to back".
 abbrev pub backToBack : List (List ℕ) → List ℕ
 backToBack [] = []
 backToBack (p ∷ ps) = p ++ backToBack ps
@@ -50,15 +50,15 @@ abbrev pub listed : List (List ℕ) → List ℕ
 listed [] = []
 listed (p ∷ ps) = u16Bytes (length p) ++ p ++ listed ps
 
--- `cut` takes apart what `join` puts into one run: no pages are no bytes; where there are no bytes, nothing stands
--- next; and where a page of good form stands first, it is cut off just at its end, whatever stands behind it.
+-- `cut` takes apart what `join` puts into one run: no pages are no bytes; if there are no bytes, nothing is
+-- next; and if a page of good form is first, it is cut off just at its end, whatever is after it.
 pub record TakesApart (cut : List ℕ → Next) (join : List (List ℕ) → List ℕ) : Type 0 where
   pub empty : join [] ≡ []
   pub none : cut [] ≡ ended
   pub first : (p : List ℕ) (ps : List (List ℕ)) (t : List ℕ) → pageForm p ≡ true
       → cut (join (p ∷ ps) ++ t) ≡ next p (join ps ++ t)
 
--- The host's cut: a page of good form ends "after the records its head counts", whatever stands behind it.
+-- The host's cut: a page of good form ends "after the records its head counts", whatever is after it.
 host-first : (p t : List ℕ) → pageForm p ≡ true → hostCut (p ++ t) ≡ next p t
 host-first p t e =
     let form = whole-form p t e in
@@ -90,7 +90,7 @@ host-apart =
       first = λ p ps t e. rw (append-assoc p (backToBack ps) t) (host-first p (backToBack ps ++ t) e);
     }
 
--- The listing's cut takes apart pages each of which stands after its length.
+-- The listing's cut takes apart pages each of which comes after its length.
 pub listed-apart : TakesApart listedCut listed
 listed-apart =
     record {
@@ -110,7 +110,7 @@ pub record AllTaken (cut : List ℕ → Next) (join : List (List ℕ) → List �
   pub pages : c .pages ≡ c₀ .pages + length ps
   -- The answer says whether it is complete.
   pub answer : a ≡ cond (c .complete) Complete More
-  -- A run that begins with the pages is read from c₀ on as the bytes behind them are read from c on.
+  -- A run that begins with the pages is read from c₀ on as the bytes after them are read from c on.
   pub reads : (t : List ℕ) → readFrom cut c₀ (join ps ++ t) ≡ readFrom cut c t
 
 -- An answer that is no refusal says that all pages are taken, since taking ends at the first that is refused.
@@ -151,7 +151,7 @@ answered-more false e = refl
 -- The laws of reading, for any way to put pages into one run and to take them apart. Of the pages ps:
 module _ {cut : List ℕ → Next} {join : List (List ℕ) → List ℕ} (w : TakesApart cut join) (ps : List (List ℕ))
     (c : Collector) where
-  -- where a new collector takes all of them, and c is the collector then,
+  -- if a new collector takes all of them, and c is the collector then,
   module _ (a : Answer) (n : numberOf a ≡ 0)
       (e : readPages newCollector ps ≡ record { answer = a; collector = c }) where
     pub new-taken : AllTaken cut join newCollector c a ps
@@ -161,11 +161,11 @@ module _ {cut : List ℕ → Next} {join : List (List ℕ) → List ℕ} (w : Ta
     pub pages-taken : c .pages ≡ length ps
     pages-taken = omega (arith, new-taken .pages)
 
-    -- and a run that begins with them is read as the bytes behind them are read from c on;
+    -- and a run that begins with them is read as the bytes after them are read from c on;
     pub read-on : (t : List ℕ) → readRun cut (join ps ++ t) ≡ readFrom cut c t
     read-on t = read-start cut (join ps ++ t) ∙ new-taken .reads t
 
-  -- where the last of them completes the collector,
+  -- if the last of them completes the collector,
   module _ (e : readPages newCollector ps ≡ record { answer = Complete; collector = c }) where
     complete : c .complete ≡ true
     unfolding numberOf
@@ -184,12 +184,12 @@ module _ {cut : List ℕ → Next} {join : List (List ℕ) → List ℕ} (w : Ta
         ∙ read-closes []
         ∙ rw (sound, complete, pages-taken Complete refl e)
 
-    -- and with any byte behind them it is refused;
+    -- and with any byte after them it is refused;
     pub more-after : (t : List ℕ) → 0 < length t → readRun cut (join ps ++ t) ≡ refusedAt 2 (length ps)
     unfolding numberOf
     more-after t h = read-closes t ∙ closed-more c t h ∙ ap (refusedAt 2) (pages-taken Complete refl e)
 
-  -- where pages are outstanding, the run of them is refused.
+  -- if pages are outstanding, the run of them is refused.
   pub read-outstanding : readPages newCollector ps ≡ record { answer = More; collector = c }
       → readRun cut (join ps) ≡ refusedAt 1 (length ps)
   unfolding numberOf
@@ -208,19 +208,19 @@ pub host-reads : (ps : List (List ℕ)) (c : Collector)
     → readRun hostCut (backToBack ps) ≡ record { refusal = 0; page = length ps; layout = layoutOut c .layout }
 host-reads = read-complete host-apart
 
--- The same where each page stands after its length: "The program reads pages, each after its u16 length".
+-- The same if each page comes after its length: "The program reads pages, each after its u16 length".
 pub listed-reads : (ps : List (List ℕ)) (c : Collector)
     → readPages newCollector ps ≡ record { answer = Complete; collector = c }
     → readRun listedCut (listed ps) ≡ record { refusal = 0; page = length ps; layout = layoutOut c .layout }
 listed-reads = read-complete listed-apart
 
--- "after the last page any byte gives 2", at the page that would come next: behind complete pages back to back,
+-- "after the last page any byte gives 2", at the page that would come next: after complete pages back to back,
 pub host-more-after : (ps : List (List ℕ)) (c : Collector)
     → readPages newCollector ps ≡ record { answer = Complete; collector = c }
     → (t : List ℕ) → 0 < length t → readRun hostCut (backToBack ps ++ t) ≡ refusedAt 2 (length ps)
 host-more-after = more-after host-apart
 
--- and behind complete pages that stand after their lengths.
+-- and after complete pages that come after their lengths.
 pub listed-more-after : (ps : List (List ℕ)) (c : Collector)
     → readPages newCollector ps ≡ record { answer = Complete; collector = c }
     → (t : List ℕ) → 0 < length t → readRun listedCut (listed ps ++ t) ≡ refusedAt 2 (length ps)
@@ -254,7 +254,7 @@ pub host-written : (l : Layout) → valid l ≡ true → InMemory l
     ≡ record { refusal = 0; page = length (writtenPages l); layout = blanked l }
 host-written l e m = host-reads (writtenPages l) _ (written-read-back l e m) ∙ rw (layout-back l e m)
 
--- The same where each page stands after its length.
+-- The same if each page comes after its length.
 pub listed-written : (l : Layout) → valid l ≡ true → InMemory l
     → readRun listedCut (listed (writtenPages l))
     ≡ record { refusal = 0; page = length (writtenPages l); layout = blanked l }

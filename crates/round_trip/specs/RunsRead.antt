@@ -43,8 +43,8 @@ pub record FromPages (join : List (List ℕ) → List ℕ) (c : Collector) (s : 
   -- The reading is the one that ends with that collector.
   pub given : r ≡ closed last []
 
--- What `cut` takes apart, `join` puts together again: no pages are no bytes; and where the cut finds a page p at the
--- front of the bytes s and `rest` behind it, both are bytes, and s is p joined with the pages that the rest is.
+-- What `cut` takes apart, `join` puts together again: no pages are no bytes; and if the cut finds a page p at the
+-- front of the bytes s and `rest` after it, both are bytes, and s is p joined with the pages that the rest is.
 pub record PutsTogether (cut : List ℕ → Next) (join : List (List ℕ) → List ℕ) : Type 0 where
   pub empty : join [] ≡ []
   pub page : (s p rest : List ℕ) → AreBytes s → cut s ≡ next p rest → AreBytes p
@@ -54,14 +54,14 @@ pub record PutsTogether (cut : List ℕ → Next) (join : List (List ℕ) → Li
 
 -- For any way to cut pages from bytes and to put them into one run:
 module _ {cut : List ℕ → Next} {join : List (List ℕ) → List ℕ} (w : PutsTogether cut join) where
-  -- where the collector is complete and no byte is left, the reading is that of no pages;
+  -- if the collector is complete and no byte is left, the reading is that of no pages;
   none-left : (c : Collector) (s : List ℕ) → c .complete ≡ true → closed c s .refusal ≡ 0
       → FromPages join c s (closed c s)
   none-left c [] e z =
       record { pages = []; each = tt; bytes = sym (w .empty); last = c; taken = rw e; given = refl }
   none-left c (b ∷ rest) e z = absurd (omega arith)
 
-  -- where it wants more, a page stands next and is taken, and the rest is read on;
+  -- if it wants more, a page is next and is taken, and the rest is read on;
   page-next : (left : ℕ)
       → ((d : Collector) (t : List ℕ) → AreBytes t → readOn cut left d t .refusal ≡ 0
       → FromPages join d t (readOn cut left d t))
@@ -83,7 +83,7 @@ module _ {cut : List ℕ → Next} {join : List (List ℕ) → List ℕ} (w : Pu
       })
       (λ t. let y : k ≡ 0 = rw t at z in absurd (eqb-false k 0 t y))
 
-  -- so either way, as x says, the bytes are pages where the reading has no refusal;
+  -- so either way, as x says, the bytes are pages if the reading has no refusal;
   pages-by : (left : ℕ)
       → ((d : Collector) (t : List ℕ) → AreBytes t → readOn cut left d t .refusal ≡ 0
       → FromPages join d t (readOn cut left d t))
@@ -105,7 +105,7 @@ module _ {cut : List ℕ → Next} {join : List (List ℕ) → List ℕ} (w : Pu
   unfolding readRun
   run-pages s b z = pages-read 17 newCollector s b z
 
--- The parts of what stands next: is it a whole page, the page, and the bytes behind it?
+-- The parts of what is next: is it a whole page, the page, and the bytes after it?
 abbrev isWhole : Next → Bool
 isWhole ended = false
 isWhole broken = false
@@ -121,7 +121,7 @@ restOf ended = []
 restOf broken = []
 restOf (next p rest) = rest
 
--- Where a cut gave a page, its test for a whole page holds, and the page and the rest are those that it names.
+-- If a cut gave a page, its test for a whole page holds, and the page and the rest are those that it names.
 cut-gave : (x y : Bool) (q r p rest : List ℕ) → cond x ended (cond y (next q r) broken) ≡ next p rest
     → (y ≡ true) × (q ≡ p) × (r ≡ rest)
 cut-gave true y q r p rest e = clash {b = true} refl (ap isWhole (sym e))
@@ -160,7 +160,7 @@ host-together =
       both = λ s p rest b e ps r. host-parts s p rest e ∙ ap (λ (t : List ℕ). p ++ t) r;
     }
 
--- Pages each of which stands after its length are what the listing's cut takes apart.
+-- Pages each of which comes after its length are what the listing's cut takes apart.
 pub listed-together : PutsTogether listedCut listed
 listed-together =
     record {
@@ -202,7 +202,7 @@ run-written-again {join} s r f rule =
     read-written-again (f .pages) (f .last) (f .each) (f .taken) rule in
     ap (λ (l : Layout). join (writtenPages l)) layout ∙ ap join pages ∙ sym (f .bytes)
 
--- "rewriting a reading gives the same bytes where they were paged by the writer's rule", for one run of bytes: where
+-- "rewriting a reading gives the same bytes where they were paged by the writer's rule", for one run of bytes: if
 -- the host's reading takes the bytes s without a refusal, and the pages that it finds in them were paged by the
 -- writer's rule, the pages of the layout read, written one after another and put back to back, are s.
 pub host-written-again : (s : List ℕ) (b : AreBytes s) (z : readRun hostCut s .refusal ≡ 0)

@@ -28,7 +28,7 @@ use Rattle.paging.specs.PagingLaws.{next-page}
 use Rattle.round_trip.specs.Pages.{writtenFrom, firstSize, pagedByRule, AllBytes}
 use Rattle.round_trip.specs.CompleteReading.{componentsIn, ArePages, some-left}
 
--- The first of the components, if there is one, does not fit into `room` bytes behind the `used` bytes.
+-- The first of the components, if there is one, does not fit into `room` bytes after the `used` bytes.
 abbrev DoesNotFit : ℕ → ℕ → List Component → Type 0
 DoesNotFit room used [] = Unit {0}
 DoesNotFit room used (c ∷ cs) = room < used + sizeOf c
@@ -39,7 +39,7 @@ unfit-less : (room size used : ℕ) (ds : List Component) → DoesNotFit room (s
 unfit-less room size used [] h = tt
 unfit-less room size used (d ∷ ds) h = omega arith
 
--- Of components that fit, and others behind them, the first of which does not fit too, the writer puts just the former
+-- Of components that fit, and others after them, the first of which does not fit too, the writer puts just the former
 -- into the page.
 fitting-exact : (room : ℕ) (cs ds : List Component) → total cs ≤ room → DoesNotFit room (total cs) ds
     → fitting room (sizesOf (cs ++ ds)) ≡ length cs
@@ -49,7 +49,7 @@ fitting-exact room (c ∷ cs) ds h k =
     rw (le-leb (sizeOf c) room (omega arith))
     (ap suc (fitting-exact (room - sizeOf c) cs ds (omega arith) (unfit-less room (sizeOf c) (total cs) ds k)))
 
--- So these are the components of the writer's page, and the others those behind it.
+-- So these are the components of the writer's page, and the others those after it.
 module _ (cs ds : List Component) (h : total cs ≤ 496) (k : DoesNotFit 496 (total cs) ds) where
   first-exact : firstPage (cs ++ ds) ≡ cs
   first-exact = rw (fitting-exact 496 cs ds h k) (take-append-seam cs ds)
@@ -57,7 +57,7 @@ module _ (cs ds : List Component) (h : total cs ≤ 496) (k : DoesNotFit 496 (to
   later-exact : laterPages (cs ++ ds) ≡ ds
   later-exact = rw (fitting-exact 496 cs ds h k) (drop-append-seam cs ds)
 
--- Where each component of two lists, one behind the other, is to have at most 16 object records, so is each of either.
+-- If each component of two lists, one after the other, is to have at most 16 object records, so is each of either.
 few-left : (cs ds : List Component) → Few (cs ++ ds) → Few cs
 few-left [] ds f = tt
 few-left (c ∷ cs) ds f = (f .0, few-left cs ds (f .1))
@@ -113,7 +113,7 @@ module _ (g k : ℕ) (p : List ℕ) (ps : List (List ℕ)) (a : ArePages g k (p 
   first-same : firstPage (componentsIn (p ∷ ps)) ≡ componentsOf p
   first-same = first-exact (componentsOf p) (componentsIn ps) first-fits (rule-unfit g k p ps a f e)
 
-  -- and those of the later pages behind it;
+  -- and those of the later pages after it;
   later-same : laterPages (componentsIn (p ∷ ps)) ≡ componentsIn ps
   later-same = later-exact (componentsOf p) (componentsIn ps) first-fits (rule-unfit g k p ps a f e)
 
@@ -137,7 +137,7 @@ module _ (g k : ℕ) (p : List ℕ) (ps : List (List ℕ)) (a : ArePages g k (p 
       ∙ read-written p b (a .0 .form) (few-left (componentsOf p) (componentsIn ps) f)
 
 -- Pages from page k on, paged by the writer's rule, are those that are written of a layout whose components from page k
--- on are theirs, where at least as many pages are asked for.
+-- on are theirs, if at least as many pages are asked for.
 pub pages-same : (n k : ℕ) (l : Layout) (ps : List (List ℕ)) → AllBytes ps → ArePages (l .generation) k ps
     → Few (componentsIn ps) → pagedByRule ps ≡ true → fromPage k (view l) ≡ componentsIn ps → length ps ≤ n
     → writtenFrom n k l ≡ ps

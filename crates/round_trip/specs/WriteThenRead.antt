@@ -45,7 +45,7 @@ fit-rest zero cs f = f
 fit-rest (suc n) [] f = tt
 fit-rest (suc n) (c ∷ cs) f = fit-rest n cs (f .1)
 
--- Blanking the unused places of components leaves none where there are none, and some where there are some.
+-- Blanking the unused places of components leaves none if there are none, and some if there are some.
 none-trimmed : (cs : List Component) → isSome cs ≡ false → map trimmed cs ≡ []
 none-trimmed [] e = refl
 none-trimmed (c ∷ cs) e = cc
@@ -54,7 +54,7 @@ some-trimmed : (cs : List Component) → isSome (map trimmed cs) ≡ isSome cs
 some-trimmed [] = refl
 some-trimmed (c ∷ cs) = refl
 
--- Where a valid layout has a page k,
+-- If a valid layout has a page k,
 module _ (l : Layout) (v : Valid l) (m : InMemory l) (k : ℕ) (has : startOf l k < length (view l)) where
   -- its head is one that a page can hold;
   head-fits : FitsHead (headFor (l .generation) k (fromPage k (view l))) (length (firstPage (fromPage k (view l))))
@@ -88,12 +88,12 @@ record Written (l : Layout) (k : ℕ) (ps : List (List ℕ)) : Type 0 where
   pages : ArePages (l .generation) k ps
   components : componentsIn ps ≡ map trimmed (fromPage k (view l))
 
--- So it is of the pages that are written from page k on where there is no page k: none are written;
+-- So it is of the pages that are written from page k on if there is no page k: none are written;
 none-written : (l : Layout) (n k : ℕ) → isSome (fromPage k (view l)) ≡ false → Written l k (writtenFrom n k l)
 none-written l n k e =
     rw (written-nil n k l e) (record { pages = tt; components = sym (none-trimmed (fromPage k (view l)) e) })
 
--- and so it is from each page k on, where their limit n is not below the number of components that are left.
+-- and so it is from each page k on, if their limit n is not below the number of components that are left.
 written-from : (l : Layout) → Valid l → InMemory l → AllFit (view l) → (n k : ℕ)
     → length (view l) ≤ startOf l k + n → Written l k (writtenFrom n k l)
 written-from l v m fits zero k most =

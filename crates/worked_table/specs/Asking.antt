@@ -81,7 +81,7 @@ layoutAfter l (back id stripe byte) = l
 layoutAfter l (cut offset bytes) = l
 layoutAfter l (grow k) = afterCall l k
 
--- The answers to rows, asked one after another, where `l` is the layout after the row before them. Each example is computed by
+-- The answers to rows, asked one after another, if `l` is the layout after the row before them. Each example is computed by
 -- this definition, so its second line names all that is to be computed.
 unfoldable pub repliesFrom : Layout → List Row → List Reply
 unfolding lookupOf lookupRefusal homeOf homeIn hasHome backOf backRefusal byteOf hiddenRefusal fileByteIn cutOf

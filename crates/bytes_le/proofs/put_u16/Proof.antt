@@ -1,4 +1,4 @@
--- `bytes_le::put_u16` meets its contract: two stores, one behind the other.
+-- `bytes_le::put_u16` meets its contract: two stores, one after the other.
 use native.Mathlib.Numerals.{add-one}
 use native.Mathlib.Omega.{arith}
 use lib.ListN.{length-set}

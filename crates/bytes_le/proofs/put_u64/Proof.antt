@@ -1,4 +1,4 @@
--- `bytes_le::put_u64` meets its contract: two runs of stores, one behind the other, are the stores of both halves' bytes.
+-- `bytes_le::put_u64` meets its contract: two runs of stores, one after the other, are the stores of both halves' bytes.
 use Prim.Native.Nat.{_%_, _/_}
 use mathlib.Core.Path.{sym, _∙_}
 use denote.Ref.{now}

@@ -24,7 +24,7 @@ use borrow.Author.Needs.{needs}
 use Rattle.collector.proofs.take_walked.Statement.{statement}
 use Rattle.collector.proofs.take_walked.Tie as tie
 
--- Where the test of the page's number passed, the page is the next.
+-- If the test of the page's number passed, the page is the next.
 is-next : (c : tie.After-is-next) → (let h = c .before .before in let a = h .before .before .args in
     not (c .is-next .result) ≡ false → isNext (a .c .pages) (a .c .layout .generation) (headOf (now (a .s))) ≡ true)
 is-next c e =

@@ -18,7 +18,7 @@ Inv-loop from to sizes bytes₀ i₀ bytes i =
 abbrev μ-loop : tie.MeasureT-loop
 μ-loop from to sizes bytes₀ i₀ bytes i = to - i
 
--- The sum of the sizes from i on is size i and the sum of those behind it.
+-- The sum of the sizes from i on is size i and the sum of those after it.
 next : (c : tie.In-loop Inv-loop μ-loop) → let i = c .before .loop .i in let a = c .before .before .args in
     sum (slice i (a .to) (a .t1)) ≡ getD (a .t1) i 0 + sum (slice (i + 1) (a .to) (a .t1))
 next c =

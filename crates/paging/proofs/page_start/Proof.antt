@@ -1,4 +1,4 @@
--- `paging::page_start` meets its contract: `from` components stand before page `page`; if none is left, before later ones too.
+-- `paging::page_start` meets its contract: `from` components are before page `page`; if none is left, before later ones too.
 use Prim.Native.Nat.{ℕ, _≤_, _-_}
 use mathlib.Core.Path.{_≡_, refl, sym, ap, _∙_}
 use native.Mathlib.Omega.{arith}

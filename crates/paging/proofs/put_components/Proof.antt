@@ -24,7 +24,7 @@ Inv-loop buffer₀ from to l at₀ i₀ buffer at i =
 abbrev μ-loop : tie.MeasureT-loop
 μ-loop buffer₀ from to l at₀ i₀ buffer at i = to - i
 
--- The components from i on are component i and those behind it.
+-- The components from i on are component i and those after it.
 next : (c : tie.In-loop Inv-loop μ-loop) → let i = c .before .loop .i in let a = c .before .before .before .args in
     slice i (a .to) (a .t2 .components) ≡ getD (a .t2 .components) i unread ∷ slice (i + 1) (a .to) (a .t2 .components)
 next c =
@@ -33,7 +33,7 @@ next c =
     let h : length l ≡ 16 = unmapped l _ (s .good .1 .0 .1 .1 .1 .1 .0 .1 .0 .1) in
     slice-next l (s .args .to) (c .before .loop .i) unread (c .loop-test .taken) (omega arith)
 
--- There is room for component i and those behind it.
+-- There is room for component i and those after it.
 room : (c : tie.In-loop Inv-loop μ-loop) → let p = c .before .loop in let a = c .before .before .before .args in
     p .at
     + (sizeOf (getD (a .t2 .components) (p .i) unread)

@@ -34,7 +34,7 @@ page-end-requires c κs =
     let s = c .before .before .before .before in
     (c .before .page-start .ensures .1, valid-facts (s .args .l) (s .pre) .few)
 
--- What stands in the page.
+-- What is in the page.
 page : (c : tie.After-page-end) → let s = c .before .before .before .before .before in
     Page (s .args .l) (s .args .number) (c .before .before .page-start .result) (c .page-end .result)
     (c .before .before .before .sizes-of .result)

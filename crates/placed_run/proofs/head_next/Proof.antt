@@ -1,4 +1,4 @@
--- `placed_run::head_next` meets its contract: the part that is lent are the bytes behind the position.
+-- `placed_run::head_next` meets its contract: the part that is lent are the bytes after the position.
 use mathlib.Core.Path.{ap, _∙_}
 use denote.Ref.{now}
 use borrow.Author.Needs.{needs}

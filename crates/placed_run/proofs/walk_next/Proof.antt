@@ -1,4 +1,4 @@
--- `placed_run::walk_next` meets its contract: the part that is lent are the bytes behind the position.
+-- `placed_run::walk_next` meets its contract: the part that is lent are the bytes after the position.
 use Prim.Native.Nat.{_-_, min}
 use mathlib.Core.Path.{_≡_, sym, ap, _∙_}
 use native.Mathlib.Omega.{arith}

@@ -1,4 +1,4 @@
--- `collector::run::read_listed` meets its contract: the whole reading is the reading from the collector on, of the bytes behind `at`.
+-- `collector::run::read_listed` meets its contract: the whole reading is the reading from the collector on, of the bytes after `at`.
 use Prim.Native.Nat.{ℕ, _+_, _≤_, _-_}
 use mathlib.Core.Path.{_≡_, sym, ap, subst, _∙_}
 use mathlib.Core.List.{List}

@@ -1,4 +1,4 @@
--- `in_place::fields::first_target_ok` meets its contract: the first object record stands directly behind the component.
+-- `in_place::fields::first_target_ok` meets its contract: the first object record is directly after the component.
 use Prim.Native.Nat.{_+_, _<_}
 use mathlib.Core.Path.{_≡_, ap, _∙_}
 use native.Mathlib.Omega.{arith}

@@ -1,5 +1,5 @@
 -- `layout::distinct::repeat_by_keys` meets its contract: outside, the position is `later` and that among the records from there
--- on; inside, the record is asked of those from `earlier` to `later`, or of none where its key equals none of theirs.
+-- on; inside, the record is asked of those from `earlier` to `later`, or of none if its key equals none of theirs.
 use Prim.Native.Nat.{ℕ, suc, _+_, _≤_, _<_, _-_}
 use mathlib.Core.Path.{_≡_, sym, _∙_}
 use mathlib.Core.List.{List}
@@ -20,7 +20,7 @@ use borrow.Author.Needs.{needs}
 use Rattle.layout.proofs.distinct.repeat_by_keys.Statement.{statement}
 use Rattle.layout.proofs.distinct.repeat_by_keys.Tie as tie
 
--- What one step of the row and one of the scan come to where the object records are named by two rows of numbers.
+-- What one step of the row and one of the scan come to if the object records are named by two rows of numbers.
 module _ (ts ns : List ℕ) (i : ℕ) (t : i < length ts) (n : i < length ns) where
   abbrev at : Object
   at = objectOf (getD ts i 0) (getD ns i 0)

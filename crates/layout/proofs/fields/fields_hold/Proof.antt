@@ -1,4 +1,4 @@
--- `layout::fields::fields_hold` meets its contract: no test fails exactly if the first that does stands at the count.
+-- `layout::fields::fields_hold` meets its contract: no test fails exactly if the first that does is at the count.
 use mathlib.Core.Path.{_≡_, _∙_}
 use native.Mathlib.Omega.{arith}
 use lib.ListN.{length}

@@ -1,4 +1,4 @@
--- `layout::fields::first_target_ok` meets its contract: the first object record stands in the first place of the array.
+-- `layout::fields::first_target_ok` meets its contract: the first object record is in the first place of the array.
 use mathlib.Core.Path.{_≡_, sym, ap, _∙_}
 use native.Mathlib.Omega.{arith}
 use lib.ListN.{length}

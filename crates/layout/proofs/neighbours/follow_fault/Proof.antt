@@ -1,4 +1,4 @@
--- `layout::neighbours::follow_fault` meets its contract: the position is i and the position among the tests from i on, where `may` says what stands before.
+-- `layout::neighbours::follow_fault` meets its contract: the position is i and the position among the tests from i on, if `may` says what is before.
 use Prim.Native.Nat.{_+_, _≤_, _-_}
 use mathlib.Core.Path.{_≡_, sym, _∙_}
 use mathlib.Core.Bool.{false}

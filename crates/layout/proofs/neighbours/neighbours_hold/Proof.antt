@@ -1,4 +1,4 @@
--- `layout::neighbours::neighbours_hold` meets its contract: each part holds exactly if its first fault stands at n.
+-- `layout::neighbours::neighbours_hold` meets its contract: each part holds exactly if its first fault is at n.
 use mathlib.Core.Path.{_≡_, _∙_}
 use mathlib.Core.Bool.{false}
 use native.Mathlib.Omega.{arith}

@@ -1,5 +1,5 @@
 -- `moorsickle::growing::load` meets its contract: a walk of its MIR. Before the loop `places_of` and `empty_table` are called; in
--- each turn one record is read behind the reference, and goes to `with_record`. At i the table has the first i records.
+-- each turn one record is read through the reference, and goes to `with_record`. At i the table has the first i records.
 use mathlib.Core.Path.{_≡_, refl, sym, ap, subst, _∙_}
 use Prim.Native.Nat.{ℕ, _<_, _≤_, _^_, _+_, _-_, zero-le}
 use native.Mathlib.Nat.{le-antisymm}

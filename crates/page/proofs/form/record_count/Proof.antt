@@ -1,4 +1,4 @@
--- `page::form::record_count` meets its contract: the stripe count where init is set, else 0.
+-- `page::form::record_count` meets its contract: the stripe count if init is set, else 0.
 use Prim.Native.Nat.{_+_}
 use mathlib.Core.Path.{_≡_, refl, sym, ap, _∙_}
 use mathlib.Core.Bool.{true, false}

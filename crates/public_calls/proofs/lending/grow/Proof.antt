@@ -118,7 +118,7 @@ module _ (l : Layout) (offset mark : ℕ) (t : Table) where
   abbrev given : Outcome
   given = growOf l (callOf offset mark t)
 
-  -- The records afterwards, where the lent ones are zs.
+  -- The records afterwards, if the lent ones are zs.
   abbrev after : List TargetRecord → List TargetRecord
   after zs = zs ++ dropped (t .count) (t .records)
 

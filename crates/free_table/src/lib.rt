@@ -1,6 +1,7 @@
 // The free table: what is free on each target and the number of the next object there; which targets are low, which are
 // usable, and which are chosen.
 use layout::Component;
+use layout::NO_OBJECT;
 use layout::Object;
 ghost use mathlib.Core.Path.{_≡_};
 ghost use mathlib.Core.List.{[], _∷_};
@@ -36,12 +37,6 @@ pub const NO_RECORD: TargetRecord = TargetRecord {
     target: 0,
     free: 0,
     next: 0,
-};
-
-// What is in the unused places of a choice.
-const NO_OBJECT: Object = Object {
-    target: 0,
-    number: 0,
 };
 
 // Do the targets of the table rise, and are they at most 65,534?

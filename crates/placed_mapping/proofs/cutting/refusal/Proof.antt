@@ -47,9 +47,11 @@ returns-3 c =
     (refused-11 _ (a .offset) (a .bytes) (a .numbers) _ (omega arith) (e .if2 .left)
     (sym (c .before .asked-of .ensures .0) ∙ c .if3 .taken))
 
--- If none of the others applies, the number is 12 or 0, by the test of the number of pieces.
+-- If none of the others applies, the number is 12 or 0, by the test of the number of pieces. `two` is the point at which
+-- the last end has been asked, five steps after the start.
 last : (c : tie.After-too-many) (t : Bool) → c .too-many .result ≡ t
-    → let a = c .before .before .before .before .before .before .before .before .args in
+    → let two = c .before .before .before in
+    let a = two .before .before .before .before .before .args in
     cond t 12 0 ≡ cutRefusal (a .offset) (a .bytes) (a .numbers) (componentsAt (now (a .pages)) (take (a .n) (now (a .places))))
 last c t e =
     let asked = c .before .before .asked-of in

@@ -118,10 +118,6 @@ pub(crate) fn refusals(b: Layout) {
     refused(b, 16777216, tables::two(1, 1000, 30, 0, 1000, 20));
     text::put(b"B, byte 16777216, a table of 65 records:");
     refused(b, 16777216, tables::long());
-    text::put(b"B, byte 18446744073709551615:");
-    refused(
-        b,
-        18446744073709551615,
-        tables::two(0, 1000, 20, 1, 1000, 30),
-    );
+    text::put(b"B, byte 16777216, no target usable:");
+    refused(b, 16777216, tables::two(0, 999, 20, 1, 999, 30));
 }

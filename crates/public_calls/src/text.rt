@@ -17,13 +17,13 @@ pub(crate) fn put_refused(number: u8) {
     put_number(number as u64);
 }
 
-// Prints whether what was lent is as it was before the call.
+// Prints whether what was lent, other than what was printed, is as it was before the call.
 pub(crate) fn put_stays(stays: bool) {
     if stays {
-        put(b", what was lent stays");
+        put(b", nothing else changed");
         return;
     }
-    put(b", what was lent is changed");
+    put(b", something else changed");
 }
 
 // Ends the line.

@@ -98,28 +98,7 @@ fn put_all(
     p
 }
 
-// Do the object records of the components at the first n places differ? The rows have room for all of them.
-fn rows_differ(
-    s: &[u8],
-    places: &[usize; 16],
-    n: usize,
-    targets: &mut [u32],
-    numbers: &mut [u64],
-    keys: &mut [u16],
-) -> bool
-    requires { let all = length (recordsIn (componentsAt (now s) (take n (now places)))) in
-        ⌜ (n ≤ 16)
-        × Within (now s) n (now places)
-        × (all ≤ length (now targets))
-        × (all ≤ length (now numbers))
-        × (all ≤ length (now keys)) ⌝ }
-    ensures { λ r. ⌜ r ≡ every (objectTests (componentsAt (now (s .entry)) (take n (now (places .entry))))) ⌝ }
-{
-    let all = put_all(s, places, n, targets, numbers);
-    layout::distinct::object_repeat(targets, numbers, keys, all, 0) == all
-}
-
-// The same of at most 32 object records.
+// Do the object records of the components at the first n places differ, which are at most 32?
 fn few_differ(s: &[u8], places: &[usize; 16], n: usize) -> bool
     requires { ⌜ (n ≤ 16)
         × Within (now s) n (now places)
@@ -129,10 +108,11 @@ fn few_differ(s: &[u8], places: &[usize; 16], n: usize) -> bool
     let mut targets = [0u32; 32];
     let mut numbers = [0u64; 32];
     let mut keys = [0u16; 32];
-    rows_differ(s, places, n, &mut targets, &mut numbers, &mut keys)
+    let all = put_all(s, places, n, &mut targets, &mut numbers);
+    layout::distinct::object_repeat(&targets, &numbers, &mut keys, all, 0) == all
 }
 
-// And of at most 256.
+// The same of at most 256. It is not one function with the other over lent rows: that was measured to be slower.
 fn many_differ(s: &[u8], places: &[usize; 16], n: usize) -> bool
     requires { ⌜ (n ≤ 16)
         × Within (now s) n (now places)
@@ -142,7 +122,8 @@ fn many_differ(s: &[u8], places: &[usize; 16], n: usize) -> bool
     let mut targets = [0u32; 256];
     let mut numbers = [0u64; 256];
     let mut keys = [0u16; 256];
-    rows_differ(s, places, n, &mut targets, &mut numbers, &mut keys)
+    let all = put_all(s, places, n, &mut targets, &mut numbers);
+    layout::distinct::object_repeat(&targets, &numbers, &mut keys, all, 0) == all
 }
 
 // Do the object records of the components at the first n places differ?

@@ -9,7 +9,7 @@ ghost use lib.ListN.{length, getD, take};
 ghost use Rattle.layout.specs.Records.{packed};
 ghost use Rattle.layout.specs.declared.Component.{Component};
 ghost use Rattle.page.specs.declared.Head.{Head};
-ghost use Rattle.page.specs.Form.{behind};
+ghost use Rattle.page.specs.Form.{componentEnd};
 ghost use Rattle.page.specs.Content.{componentAt, headOf, componentsOf};
 ghost use Rattle.page.specs.Walked.{Walked};
 ghost use Rattle.collector.specs.Collector.{newCollector, gathered, countsAgree, collectorOk};
@@ -132,7 +132,7 @@ fn accept(pages: usize, more: bool, layout: Layout) -> Taken
 
 // The layout with the components at the first n places of the bytes after its own, and another generation.
 fn with_components(l: Layout, generation: u32, s: &[u8], places: [usize; 16], n: usize) -> Layout
-    requires { ⌜ (l .count + n ≤ 16) × ((i : ℕ) → i < n → behind (now s) (getD places i 0) ≤ length (now s)) ⌝ }
+    requires { ⌜ (l .count + n ≤ 16) × ((i : ℕ) → i < n → componentEnd (now s) (getD places i 0) ≤ length (now s)) ⌝ }
     ensures { λ r. ⌜ r ≡ joined generation l (map (componentAt (now (s .entry))) (take n places)) ⌝ }
 {
     let mut out = l;

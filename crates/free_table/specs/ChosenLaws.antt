@@ -42,8 +42,8 @@ abbrev pub raisedIn : List Object → TargetRecord → TargetRecord
 raisedIn os r = cond (elem sameObject (nextObject r) os) (raised r) r
 
 -- With one more object in front, what was among them still is,
-elem-behind : (x o : Object) (os : List Object) → elem sameObject x os ≡ true → elem sameObject x (o ∷ os) ≡ true
-elem-behind x o os e = bool-cases (sameObject x o) (λ q. rw q) (λ q. rw q e)
+elem-after : (x o : Object) (os : List Object) → elem sameObject x os ≡ true → elem sameObject x (o ∷ os) ≡ true
+elem-after x o os e = bool-cases (sameObject x o) (λ q. rw q) (λ q. rw q e)
 
 -- and they are below a target that they and it are below.
 below-cons : (o : Object) (os : List Object) (target : ℕ) → o .target < target → AllBelow os target → AllBelow (o ∷ os) target
@@ -76,17 +76,17 @@ module _ (ok : TargetRecord → Bool) where
       (λ q. q)
 
   -- Each record that passes is in the table.
-  place-behind : (r q : TargetRecord) (rs : List TargetRecord) → PlaceOf ok rs q → PlaceOf ok (r ∷ rs) q
-  place-behind r q rs p = (suc (p .0), omega (arith, p .1), p .2, p .3)
+  place-after : (r q : TargetRecord) (rs : List TargetRecord) → PlaceOf ok rs q → PlaceOf ok (r ∷ rs) q
+  place-after r q rs p = (suc (p .0), omega (arith, p .1), p .2, p .3)
 
   passing-place : (rs : List TargetRecord) (j : ℕ) → j < length (passing ok rs) → PlaceOf ok rs (getD (passing ok rs) j noRecord)
   passing-place [] j h = absurd (omega arith)
   passing-place (r ∷ rs) zero h = bool-cases (ok r) (λ e. rw e (0, omega arith, e, refl))
-      (λ e. rw e (place-behind r (getD (passing ok rs) 0 noRecord) rs (passing-place rs 0 (rw e at h))))
+      (λ e. rw e (place-after r (getD (passing ok rs) 0 noRecord) rs (passing-place rs 0 (rw e at h))))
   passing-place (r ∷ rs) (suc j) h = bool-cases (ok r)
       (λ e. let k : suc j < suc (length (passing ok rs)) = rw e at h in
-      rw e (place-behind r (getD (passing ok rs) j noRecord) rs (passing-place rs j (omega arith))))
-      (λ e. rw e (place-behind r (getD (passing ok rs) (suc j) noRecord) rs (passing-place rs (suc j) (rw e at h))))
+      rw e (place-after r (getD (passing ok rs) j noRecord) rs (passing-place rs j (omega arith))))
+      (λ e. rw e (place-after r (getD (passing ok rs) (suc j) noRecord) rs (passing-place rs (suc j) (rw e at h))))
 
   -- Each object chosen is the next one of a record of the table that passes.
   pub chosen-usable : (s : ℕ) (rs : List TargetRecord) (j : ℕ) → j < length (chosen ok s rs)
@@ -111,7 +111,7 @@ module _ (ok : TargetRecord → Bool) where
       let k = target-above (r .target + 1) rs (p .2) i (omega arith) in
       rw (chosen-cons ok s r rs)
       (bool-cases (ok r)
-      (λ q. rw q (⊎-elim (λ w. inl (elem-behind (nextObject (getD rs i noRecord)) (nextObject r) (chosen ok s rs) w))
+      (λ q. rw q (⊎-elim (λ w. inl (elem-after (nextObject (getD rs i noRecord)) (nextObject r) (chosen ok s rs) w))
       (λ w. inr (ap suc (w .0), below-cons (nextObject r) (chosen ok s rs) (getD rs i noRecord .target) (omega arith) (w .1)))
       (chosen-lowest (r .target + 1) s rs (p .2) i (omega arith) u)))
       (λ q. rw q (chosen-lowest (r .target + 1) (suc s) rs (p .2) i (omega arith) u)))

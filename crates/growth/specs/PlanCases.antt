@@ -145,10 +145,10 @@ module _ (l : Layout) (v : Valid l) (k : Call) (i : ℕ) (at : i ≡ holderOf (k
       let first : drop j cs ≡ c ∷ (x ∷ rest) =
       drop-cons cs j noComponent (omega arith) ∙ ap (λ (l : List Component). c ∷ l) (drop-cons cs (suc j) noComponent there) in
       let few = kind-few (kind-at cs (v .keeps .fields) noComponent j (omega arith)) in
-      let behind : Fields rest = fields-drop (suc (suc j)) cs (v .keeps .fields) in
+      let rest-fields : Fields rest = fields-drop (suc (suc j)) cs (v .keeps .fields) in
       rw first
       (plan-for j (extensionPlan (k .mark) (k .table) new j (c ∷ (x ∷ rest))) (c ∷ (x ∷ rest)) (extensionStep k new c x rest)
       (rw (← first) (take-append-drop j cs))
       (extension-means k (take j cs) j (sym (length-take-le j cs (omega arith))) c x new rest few
-      (λ n after q. kind-few ((rw q at behind) .1)))
+      (λ n after q. kind-few ((rw q at rest-fields) .1)))
       (sym (extension-step k new noComponent cs j (sym at ∙ next) there (rw (← next) e))))

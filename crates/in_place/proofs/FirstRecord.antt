@@ -19,9 +19,9 @@ module _ (z : ℤ) (s : List ℕ) (at : ℕ) where
   first-missing = refl
 
   -- The first of them has its target 44 bytes after the component's place.
-  pub first-behind : (n : ℕ) → 0 < n → firstTargetOk true z (objectsAt n s (at + 40)) ≡ isTarget z (u32At s (at + 44))
+  pub first-after : (n : ℕ) → 0 < n → firstTargetOk true z (objectsAt n s (at + 40)) ≡ isTarget z (u32At s (at + 44))
   unfolding firstTargetOk objectAt
-  first-behind zero h = absurd (omega arith)
-  first-behind (suc n) h =
+  first-after zero h = absurd (omega arith)
+  first-after (suc n) h =
       let e : at + 40 + 4 ≡ at + 44 = omega arith in
       ap (λ (p : ℕ). isTarget z (u32At s p)) e

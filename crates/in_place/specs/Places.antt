@@ -6,7 +6,7 @@ use mathlib.Core.Bool.{false}
 use lib.ListN.{length, getD, take}
 use Rattle.layout.specs.declared.Component.{Component}
 use Rattle.layout.specs.Rules.{ruleBroken}
-use Rattle.page.specs.Form.{behind}
+use Rattle.page.specs.Form.{componentEnd}
 use Rattle.page.specs.Content.{componentAt}
 
 -- The components at places.
@@ -15,7 +15,7 @@ componentsAt s ps = map (componentAt s) ps
 
 -- The component at each of the first n places ends by the end of the bytes, its object records with it.
 abbrev pub Within : List ℕ → ℕ → List ℕ → Type 0
-Within s n ps = (i : ℕ) → i < n → behind s (getD ps i 0) ≤ length s
+Within s n ps = (i : ℕ) → i < n → componentEnd s (getD ps i 0) ≤ length s
 
 -- The components at the first n places are those of a valid layout.
 abbrev pub ValidAt : List ℕ → ℕ → List ℕ → Type 0

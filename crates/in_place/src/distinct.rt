@@ -8,7 +8,7 @@ ghost use Rattle.lists.specs.Tests.{every};
 ghost use Rattle.layout.specs.Records.{recordsOf, recordsIn};
 ghost use Rattle.layout.specs.Rows.{targetsOf, numbersOf};
 ghost use Rattle.layout.specs.Distinct.{idTests, objectTests, distinctHold};
-ghost use Rattle.page.specs.Form.{behind};
+ghost use Rattle.page.specs.Form.{componentEnd};
 ghost use Rattle.page.specs.Content.{componentAt};
 ghost use Rattle.in_place.specs.Places.{componentsAt, Within};
 
@@ -49,7 +49,7 @@ fn record_total(s: &[u8], places: &[usize; 16], n: usize) -> usize
 // them.
 fn put_records(s: &[u8], at: usize, p: usize, targets: &mut [u32], numbers: &mut [u64]) -> usize
     requires { let os = recordsOf (componentAt (now s) at) in
-        ⌜ (behind (now s) at ≤ length (now s))
+        ⌜ (componentEnd (now s) at ≤ length (now s))
         × (p + length os ≤ length (now targets))
         × (p + length os ≤ length (now numbers)) ⌝ }
     ensures { λ r. let os = recordsOf (componentAt (now (s .entry)) at) in

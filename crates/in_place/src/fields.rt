@@ -6,7 +6,7 @@ ghost use lib.ListN.{length};
 ghost use Rattle.lists.specs.Tests.{every, each};
 ghost use Rattle.bytes_le.specs.Numbers.{u16At, u32At, u64At, i32At};
 ghost use Rattle.layout.specs.Fields.{kindOk, firstTargetOk, targetOk, fieldsOk};
-ghost use Rattle.page.specs.Form.{behind};
+ghost use Rattle.page.specs.Form.{componentEnd};
 ghost use Rattle.page.specs.Content.{objectsAt, componentAt};
 
 // Are the stripe fields and the extension size at the place those of a component with this extent and these flags?
@@ -60,7 +60,7 @@ fn targets_ok(s: &[u8], at: usize, n: usize) -> bool
 
 // Does the component at the place keep the rules of the fields?
 pub fn fields_ok(s: &[u8], at: usize) -> bool
-    requires { ⌜ behind (now s) at ≤ length (now s) ⌝ }
+    requires { ⌜ componentEnd (now s) at ≤ length (now s) ⌝ }
     ensures { λ r. ⌜ r ≡ fieldsOk (componentAt (now (s .entry)) at) ⌝ }
 {
     let n = crate::record_count(s, at);

@@ -3,7 +3,7 @@
 ghost use mathlib.Core.Path.{_≡_};
 ghost use Prim.Native.Nat.{_≤_, min};
 ghost use lib.ListN.{length};
-ghost use Rattle.page.specs.Form.{recordsAt, behind};
+ghost use Rattle.page.specs.Form.{recordsAt, componentEnd};
 
 pub mod distinct;
 pub mod fields;
@@ -12,7 +12,7 @@ pub mod whole;
 
 // The number of object records of the component at the place, at most 16.
 pub fn record_count(s: &[u8], at: usize) -> usize
-    requires { ⌜ behind (now s) at ≤ length (now s) ⌝ }
+    requires { ⌜ componentEnd (now s) at ≤ length (now s) ⌝ }
     ensures { λ r. ⌜ (r ≡ min 16 (recordsAt (now (s .entry)) at))
         × (r ≤ 16)
         × (r ≤ recordsAt (now (s .entry)) at) ⌝ }

@@ -11,7 +11,7 @@ use lib.Seq.{sets}
 use borrow.Author.Tests.{le-leb, lt-leb, lt-ltb}
 use Rattle.lists.specs.Bools.{bool-cases, clash}
 use Rattle.lists.specs.Slices.{sets-next, take-sets}
-use Rattle.page.specs.Form.{objectsForm, componentMarks, recordsAt, behind, componentForm, componentsForm, placesFrom}
+use Rattle.page.specs.Form.{objectsForm, componentMarks, recordsAt, componentEnd, componentForm, componentsForm, placesFrom}
 use Rattle.page.specs.Form.{endFrom, headForm, counted, pagePlaces, pageEnd, formBy, pageForm}
 use Rattle.page.specs.FormLaws.{length-places, end-past, few-components, page-by}
 use Rattle.page.specs.Walked.{Walks, Walked, walked-page}
@@ -37,24 +37,24 @@ module _ (limit : ℕ) (s : List ℕ) where
 
 -- The component at a place: the tests in the walk's order.
 module _ (limit : ℕ) (s : List ℕ) (at : ℕ) where
-  pub past-limit : limit < behind s at → componentForm limit s at ≡ false
+  pub past-limit : limit < componentEnd s at → componentForm limit s at ≡ false
   unfolding componentForm
-  past-limit h = rw (lt-leb (behind s at) limit h)
+  past-limit h = rw (lt-leb (componentEnd s at) limit h)
 
-  module _ (h : behind s at ≤ limit) where
+  module _ (h : componentEnd s at ≤ limit) where
     pub marks-wrong : componentMarks s at ≡ false → componentForm limit s at ≡ false
     unfolding componentForm
-    marks-wrong e = rw (le-leb (behind s at) limit h, e)
+    marks-wrong e = rw (le-leb (componentEnd s at) limit h, e)
 
     module _ (e : componentMarks s at ≡ true) where
       pub objects-wrong : objectsForm (recordsAt s at) s (at + 40) ≡ false → componentForm limit s at ≡ false
       unfolding componentForm
-      objects-wrong f = rw (le-leb (behind s at) limit h, e, f)
+      objects-wrong f = rw (le-leb (componentEnd s at) limit h, e, f)
 
 -- A turn, with i of n components walked over and the next at a place.
 module _ (limit : ℕ) (s : List ℕ) (n i at : ℕ) where
   pub form-turn : i < n → componentForm limit s at ≡ true
-      → componentsForm (n - i) limit s at ≡ componentsForm (n - (i + 1)) limit s (behind s at)
+      → componentsForm (n - i) limit s at ≡ componentsForm (n - (i + 1)) limit s (componentEnd s at)
   form-turn h e = rw (turn n i h, e)
 
   pub form-fault : i < n → componentForm limit s at ≡ false → componentsForm (n - i) limit s at ≡ false
@@ -64,7 +64,7 @@ module _ (limit : ℕ) (s : List ℕ) (n i at : ℕ) where
   form-done h = rw (done n i h)
 
 module _ (s : List ℕ) (n i at : ℕ) where
-  pub end-turn : i < n → endFrom (n - i) s at ≡ endFrom (n - (i + 1)) s (behind s at)
+  pub end-turn : i < n → endFrom (n - i) s at ≡ endFrom (n - (i + 1)) s (componentEnd s at)
   end-turn h = rw (turn n i h)
 
   pub end-done : n ≤ i → endFrom (n - i) s at ≡ at
@@ -72,9 +72,9 @@ module _ (s : List ℕ) (n i at : ℕ) where
 
   module _ (base m : ℕ) (places : List ℕ) where
     pub places-turn : i < n → sets places (m + i) (shifted base (placesFrom (n - i) s at))
-        ≡ sets (set places (m + i) (base + at)) (m + (i + 1)) (shifted base (placesFrom (n - (i + 1)) s (behind s at)))
+        ≡ sets (set places (m + i) (base + at)) (m + (i + 1)) (shifted base (placesFrom (n - (i + 1)) s (componentEnd s at)))
     places-turn h =
-        rw (turn n i h) (sets-next places m i (base + at) (shifted base (placesFrom (n - (i + 1)) s (behind s at))))
+        rw (turn n i h) (sets-next places m i (base + at) (shifted base (placesFrom (n - (i + 1)) s (componentEnd s at))))
 
     pub places-done : n ≤ i → sets places (m + i) (shifted base (placesFrom (n - i) s at)) ≡ places
     places-done h = rw (done n i h)

@@ -11,7 +11,7 @@ use lib.Seq.{take-append-seam, drop-append-seam, length-take-le}
 use borrow.Author.Tests.{leb-true, leb-false, le-leb, lt-leb}
 use Rattle.bytes_le.specs.NumberLaws.{u16-take, u32-take, u64-take}
 use Rattle.lists.specs.Bools.{bool-cases, both-true, true-both, same-test}
-use Rattle.page.specs.Form.{objectForm, objectsForm, componentMarks, recordsAt, behind, componentForm}
+use Rattle.page.specs.Form.{objectForm, objectsForm, componentMarks, recordsAt, componentEnd, componentForm}
 use Rattle.page.specs.Form.{componentsForm, placesFrom, endFrom, headForm, counted, pageEnd, formBy, pageForm}
 use Rattle.page.specs.FormLaws.{component-within, components-parts, form-room, form-components, page-within}
 use Rattle.page.specs.FormLaws.{form-grows, form-shrinks, page-short, page-by, page-ends, page-of}
@@ -25,8 +25,8 @@ module _ (n : ℕ) (s : List ℕ) where
   records-take at h = rw (u16-take n s (at + 2) (omega arith), u16-take n s (at + 6) (omega arith))
 
   -- Where a component ends.
-  pub behind-take : (at : ℕ) → at + 8 ≤ n → behind (take n s) at ≡ behind s at
-  behind-take at h = rw (records-take at h)
+  pub after-take : (at : ℕ) → at + 8 ≤ n → componentEnd (take n s) at ≡ componentEnd s at
+  after-take at h = rw (records-take at h)
 
   -- The marks of a component.
   pub marks-take : (at : ℕ) → at + 4 ≤ n → componentMarks (take n s) at ≡ componentMarks s at
@@ -51,12 +51,12 @@ module _ (n : ℕ) (s : List ℕ) where
   component-form-take limit at h = bool-cases (leb (at + 40) limit)
       (λ e. let w : at + 40 ≤ limit = leb-true (at + 40) limit e in
       rw (records-take at (omega arith))
-      (bool-cases (leb (behind s at) limit)
-      (λ f. let v : behind s at ≤ limit = leb-true (behind s at) limit f in
+      (bool-cases (leb (componentEnd s at) limit)
+      (λ f. let v : componentEnd s at ≤ limit = leb-true (componentEnd s at) limit f in
       rw (marks-take at (omega arith), objects-form-take (recordsAt s at) (at + 40) (omega arith)))
       (λ f. rw f)))
       (λ e. let w : limit < at + 40 = leb-false (at + 40) limit e in
-      rw (lt-leb (behind (take n s) at) limit (omega arith), lt-leb (behind s at) limit (omega arith)))
+      rw (lt-leb (componentEnd (take n s) at) limit (omega arith), lt-leb (componentEnd s at) limit (omega arith)))
 
   -- The form of k components by a limit within the n bytes.
   pub components-form-take : (k limit at : ℕ) → limit ≤ n
@@ -66,7 +66,7 @@ module _ (n : ℕ) (s : List ℕ) where
       rw (component-form-take limit at h)
       (bool-cases (componentForm limit s at)
       (λ e. let w = component-within limit s at e in
-      rw (behind-take at (omega arith), components-form-take k limit (behind s at) h))
+      rw (after-take at (omega arith), components-form-take k limit (componentEnd s at) h))
       (λ e. rw e))
 
   -- The form of a head.
@@ -95,8 +95,8 @@ module _ (n : ℕ) (s : List ℕ) where
   walk-take (suc k) at e =
       let p = components-parts k n s at e in
       let w = component-within n s at (p .0) in
-      let rest = walk-take k (behind s at) (p .1) in
-      rw (behind-take at (omega arith)) (rw (rest .0), rest .1)
+      let rest = walk-take k (componentEnd s at) (p .1) in
+      rw (after-take at (omega arith)) (rw (rest .0), rest .1)
 
   pub places-take : (k at : ℕ) → componentsForm k n s at ≡ true → placesFrom k (take n s) at ≡ placesFrom k s at
   places-take k at e = walk-take k at e .0
@@ -115,7 +115,7 @@ module _ (n : ℕ) (s : List ℕ) where
   objects-take (suc k) at h = rw (object-take at (omega arith), objects-take k (at + 16) (omega arith))
 
   -- A component with its object records.
-  pub component-take : (at : ℕ) → behind s at ≤ n → componentAt (take n s) at ≡ componentAt s at
+  pub component-take : (at : ℕ) → componentEnd s at ≤ n → componentAt (take n s) at ≡ componentAt s at
   unfolding componentAt
   component-take at h =
       let m = min-le-right 16 (recordsAt s at) in
@@ -131,7 +131,7 @@ module _ (n : ℕ) (s : List ℕ) where
   components-at-take zero at e = refl
   components-at-take (suc k) at e =
       let p = components-parts k n s at e in
-      rw (component-take at (component-within n s at (p .0)), components-at-take k (behind s at) (p .1))
+      rw (component-take at (component-within n s at (p .0)), components-at-take k (componentEnd s at) (p .1))
 
   -- What the head says.
   pub head-take : 16 ≤ n → headOf (take n s) ≡ headOf s

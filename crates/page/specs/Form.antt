@@ -31,28 +31,28 @@ abbrev pub endsAt : ℕ → ℕ → ℕ
 endsAt at n = at + 40 + 16 * n
 
 -- Where the component at a place ends, its object records with it.
-abbrev pub behind : List ℕ → ℕ → ℕ
-behind s at = endsAt at (recordsAt s at)
+abbrev pub componentEnd : List ℕ → ℕ → ℕ
+componentEnd s at = endsAt at (recordsAt s at)
 
 -- The component at a place has its form, its object records too, and ends by the limit.
 unfoldable pub componentForm : ℕ → List ℕ → ℕ → Bool
 componentForm limit s at =
-    leb (behind s at) limit && componentMarks s at && objectsForm (recordsAt s at) s (at + 40)
+    leb (componentEnd s at) limit && componentMarks s at && objectsForm (recordsAt s at) s (at + 40)
 
 -- The n components from a place on, one after the other, have their form and end by the limit.
 abbrev pub componentsForm : ℕ → ℕ → List ℕ → ℕ → Bool
 componentsForm zero limit s at = true
-componentsForm (suc n) limit s at = componentForm limit s at && componentsForm n limit s (behind s at)
+componentsForm (suc n) limit s at = componentForm limit s at && componentsForm n limit s (componentEnd s at)
 
 -- The places of the n components from a place on.
 abbrev pub placesFrom : ℕ → List ℕ → ℕ → List ℕ
 placesFrom zero s at = []
-placesFrom (suc n) s at = at ∷ placesFrom n s (behind s at)
+placesFrom (suc n) s at = at ∷ placesFrom n s (componentEnd s at)
 
 -- Where the n components from a place on end.
 abbrev pub endFrom : ℕ → List ℕ → ℕ → ℕ
 endFrom zero s at = at
-endFrom (suc n) s at = endFrom n s (behind s at)
+endFrom (suc n) s at = endFrom n s (componentEnd s at)
 
 -- "Page head, 16 bytes: mark 50 48; u16 flags (bit 0 more, the rest 0); .. u16 components in the page, at least 1; ..
 -- four zero bytes."

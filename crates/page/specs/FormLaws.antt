@@ -10,14 +10,14 @@ use borrow.Author.Tests.{leb-true, eqb-true, le-leb, eq-eqb}
 use Rattle.bytes_le.specs.Numbers.{u16At, u32At}
 use Rattle.bytes_le.specs.Flags.{onlyFirst}
 use Rattle.lists.specs.Bools.{both-true, true-both}
-use Rattle.page.specs.Form.{objectsForm, componentMarks, recordsAt, behind, componentForm, componentsForm}
+use Rattle.page.specs.Form.{objectsForm, componentMarks, recordsAt, componentEnd, componentForm, componentsForm}
 use Rattle.page.specs.Form.{placesFrom, endFrom, headForm, counted, pageEnd, formBy, pageForm}
 use Rattle.page.specs.Content.{componentAt, componentsOf}
 
 -- There are as many places as components.
 pub length-places : (n : ℕ) (s : List ℕ) (at : ℕ) → length (placesFrom n s at) ≡ n
 length-places zero s at = refl
-length-places (suc n) s at = ap suc (length-places n s (behind s at))
+length-places (suc n) s at = ap suc (length-places n s (componentEnd s at))
 
 -- A page has as many components as its head counts.
 pub length-components : (s : List ℕ) → length (componentsOf s) ≡ counted s
@@ -26,38 +26,38 @@ length-components s = length-map (placesFrom (counted s) s 16) (componentAt s) �
 
 -- What the form of a component says: it ends by the limit, it has its mark and flags, and its object records have
 -- their form. And these three make the form.
-pub component-within : (limit : ℕ) (s : List ℕ) (at : ℕ) → componentForm limit s at ≡ true → behind s at ≤ limit
+pub component-within : (limit : ℕ) (s : List ℕ) (at : ℕ) → componentForm limit s at ≡ true → componentEnd s at ≤ limit
 unfolding componentForm
 component-within limit s at e =
-    let p = both-true (leb (behind s at) limit && componentMarks s at) (objectsForm (recordsAt s at) s (at + 40)) e in
-    leb-true (behind s at) limit (both-true (leb (behind s at) limit) (componentMarks s at) (p .0) .0)
+    let p = both-true (leb (componentEnd s at) limit && componentMarks s at) (objectsForm (recordsAt s at) s (at + 40)) e in
+    leb-true (componentEnd s at) limit (both-true (leb (componentEnd s at) limit) (componentMarks s at) (p .0) .0)
 
 pub component-marked : (limit : ℕ) (s : List ℕ) (at : ℕ) → componentForm limit s at ≡ true → componentMarks s at ≡ true
 unfolding componentForm
 component-marked limit s at e =
-    let p = both-true (leb (behind s at) limit && componentMarks s at) (objectsForm (recordsAt s at) s (at + 40)) e in
-    both-true (leb (behind s at) limit) (componentMarks s at) (p .0) .1
+    let p = both-true (leb (componentEnd s at) limit && componentMarks s at) (objectsForm (recordsAt s at) s (at + 40)) e in
+    both-true (leb (componentEnd s at) limit) (componentMarks s at) (p .0) .1
 
 pub component-objects : (limit : ℕ) (s : List ℕ) (at : ℕ) → componentForm limit s at ≡ true
     → objectsForm (recordsAt s at) s (at + 40) ≡ true
 unfolding componentForm
 component-objects limit s at e =
-    both-true (leb (behind s at) limit && componentMarks s at) (objectsForm (recordsAt s at) s (at + 40)) e .1
+    both-true (leb (componentEnd s at) limit && componentMarks s at) (objectsForm (recordsAt s at) s (at + 40)) e .1
 
-pub component-of : (limit : ℕ) (s : List ℕ) (at : ℕ) → behind s at ≤ limit → componentMarks s at ≡ true
+pub component-of : (limit : ℕ) (s : List ℕ) (at : ℕ) → componentEnd s at ≤ limit → componentMarks s at ≡ true
     → objectsForm (recordsAt s at) s (at + 40) ≡ true → componentForm limit s at ≡ true
 unfolding componentForm
-component-of limit s at h e f = true-both (true-both (le-leb (behind s at) limit h) e) f
+component-of limit s at h e f = true-both (true-both (le-leb (componentEnd s at) limit h) e) f
 
 -- A component that has its form by one limit has it by every limit that it ends by.
-pub component-by : (limit m : ℕ) (s : List ℕ) (at : ℕ) → componentForm limit s at ≡ true → behind s at ≤ m
+pub component-by : (limit m : ℕ) (s : List ℕ) (at : ℕ) → componentForm limit s at ≡ true → componentEnd s at ≤ m
     → componentForm m s at ≡ true
 component-by limit m s at e h = component-of m s at h (component-marked limit s at e) (component-objects limit s at e)
 
 -- Of components that have their form, the first has it, and those after it have it.
 pub components-parts : (n limit : ℕ) (s : List ℕ) (at : ℕ) → componentsForm (suc n) limit s at ≡ true
-    → (componentForm limit s at ≡ true) × (componentsForm n limit s (behind s at) ≡ true)
-components-parts n limit s at e = both-true (componentForm limit s at) (componentsForm n limit s (behind s at)) e
+    → (componentForm limit s at ≡ true) × (componentsForm n limit s (componentEnd s at) ≡ true)
+components-parts n limit s at e = both-true (componentForm limit s at) (componentsForm n limit s (componentEnd s at)) e
 
 -- Components that have their form end by the limit.
 pub end-within : (n limit : ℕ) (s : List ℕ) (at : ℕ) → at ≤ limit → componentsForm n limit s at ≡ true
@@ -65,20 +65,20 @@ pub end-within : (n limit : ℕ) (s : List ℕ) (at : ℕ) → at ≤ limit → 
 end-within zero limit s at h e = h
 end-within (suc n) limit s at h e =
     let p = components-parts n limit s at e in
-    end-within n limit s (behind s at) (component-within limit s at (p .0)) (p .1)
+    end-within n limit s (componentEnd s at) (component-within limit s at (p .0)) (p .1)
 
 -- Components take at least 40 bytes each.
 pub end-past : (n : ℕ) (s : List ℕ) (at : ℕ) → at + 40 * n ≤ endFrom n s at
 end-past zero s at = omega arith
-end-past (suc n) s at = omega (arith, end-past n s (behind s at))
+end-past (suc n) s at = omega (arith, end-past n s (componentEnd s at))
 
 -- The component at each place ends by the limit.
 pub place-within : (n limit : ℕ) (s : List ℕ) (at i : ℕ) → componentsForm n limit s at ≡ true → i < n
-    → behind s (getD (placesFrom n s at) i 0) ≤ limit
+    → componentEnd s (getD (placesFrom n s at) i 0) ≤ limit
 place-within zero limit s at i e h = absurd (omega arith)
 place-within (suc n) limit s at zero e h = component-within limit s at (components-parts n limit s at e .0)
 place-within (suc n) limit s at (suc i) e h =
-    place-within n limit s (behind s at) i (components-parts n limit s at e .1) (omega arith)
+    place-within n limit s (componentEnd s at) i (components-parts n limit s at e .1) (omega arith)
 
 -- What the form by a limit says: "A page has 16 to 512 bytes", so the limit is at least 16; the head has its form, and
 -- the components that it counts have theirs. And these three make the form.
@@ -126,7 +126,7 @@ components-grow zero m limit s at h e = refl
 components-grow (suc n) m limit s at h e =
     let p = components-parts n m s at e in
     let w = component-within m s at (p .0) in
-    true-both (component-by m limit s at (p .0) (omega arith)) (components-grow n m limit s (behind s at) h (p .1))
+    true-both (component-by m limit s at (p .0) (omega arith)) (components-grow n m limit s (componentEnd s at) h (p .1))
 
 -- A page that has its form by a limit has it by every greater one.
 pub form-grows : (m limit : ℕ) (s : List ℕ) → m ≤ limit → formBy m s ≡ true → formBy limit s ≡ true
@@ -141,8 +141,8 @@ pub components-shrink : (n limit m : ℕ) (s : List ℕ) (at : ℕ) → componen
 components-shrink zero limit m s at e h = refl
 components-shrink (suc n) limit m s at e h =
     let p = components-parts n limit s at e in
-    let w : behind s at ≤ m = omega (arith, end-past n s (behind s at)) in
-    true-both (component-by limit m s at (p .0) w) (components-shrink n limit m s (behind s at) (p .1) h)
+    let w : componentEnd s at ≤ m = omega (arith, end-past n s (componentEnd s at)) in
+    true-both (component-by limit m s at (p .0) w) (components-shrink n limit m s (componentEnd s at) (p .1) h)
 
 -- A page that has its form has it by every limit that it ends by.
 pub form-shrinks : (limit m : ℕ) (s : List ℕ) → formBy limit s ≡ true → pageEnd s ≤ m → formBy m s ≡ true

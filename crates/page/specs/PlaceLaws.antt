@@ -48,11 +48,11 @@ objects-form-from (suc n) s at =
     rw (object-form-from s at, objects-form-from n s (at + 16), objects-form-from n (drop at s) 16, drop-drop 16 at s)
 
 -- The object records of a component, and their form.
-pub behind-from : (n : ℕ) (s : List ℕ) (at : ℕ) → objectsAt n s (at + 40) ≡ objectsAt n (drop at s) 40
-behind-from n s at = rw (objects-from n s (at + 40), objects-from n (drop at s) 40, drop-drop 40 at s)
+pub after-from : (n : ℕ) (s : List ℕ) (at : ℕ) → objectsAt n s (at + 40) ≡ objectsAt n (drop at s) 40
+after-from n s at = rw (objects-from n s (at + 40), objects-from n (drop at s) 40, drop-drop 40 at s)
 
-pub behind-form-from : (n : ℕ) (s : List ℕ) (at : ℕ) → objectsForm n s (at + 40) ≡ objectsForm n (drop at s) 40
-behind-form-from n s at = rw (objects-form-from n s (at + 40), objects-form-from n (drop at s) 40, drop-drop 40 at s)
+pub after-form-from : (n : ℕ) (s : List ℕ) (at : ℕ) → objectsForm n s (at + 40) ≡ objectsForm n (drop at s) 40
+after-form-from n s at = rw (objects-form-from n s (at + 40), objects-form-from n (drop at s) 40, drop-drop 40 at s)
 
 -- A component.
 pub component-from : (s : List ℕ) (at : ℕ) → componentAt s at ≡ componentAt (drop at s) 0
@@ -67,5 +67,5 @@ component-from s at = rw (
   u64-drop at s 24,
   u64-drop at s 32,
   records-from s at,
-  behind-from (min 16 (recordsAt (drop at s) 0)) s at,
+  after-from (min 16 (recordsAt (drop at s) 0)) s at,
 )

@@ -24,7 +24,7 @@ use Rattle.layout.specs.declared.Object.{Object}
 use Rattle.layout.specs.declared.Component.{Component}
 use Rattle.layout.specs.Records.{noObject, recordCount, recordsOf, packObjects}
 use Rattle.layout.specs.RecordLaws.{records-pack}
-use Rattle.page.specs.Form.{objectForm, objectsForm, componentMarks, recordsAt, behind, componentForm}
+use Rattle.page.specs.Form.{objectForm, objectsForm, componentMarks, recordsAt, componentEnd, componentForm}
 use Rattle.page.specs.Form.{componentsForm, placesFrom, endFrom, headForm, counted, pageEnd, formBy, pageForm}
 use Rattle.page.specs.Content.{objectAt, objectsAt, componentAt, headOf, componentsOf}
 use Rattle.page.specs.Bytes.{objectBytes, objectsBytes, words, longs, fieldBytes, componentBytes, sizeOf}
@@ -142,8 +142,8 @@ module _ (s : List ℕ) (at : ℕ) (few : recordCount (componentAt s at) ≤ 16)
   read-whole = rw read-records (length-objects-at (recordsAt s at) s (at + 40))
 
   -- It ends after the bytes that it takes.
-  pub read-behind : behind s at ≡ at + sizeOf (componentAt s at)
-  read-behind = omega (arith, read-whole)
+  pub read-component-end : componentEnd s at ≡ at + sizeOf (componentAt s at)
+  read-component-end = omega (arith, read-whole)
 
   -- The unused places of its object array are blank.
   pub read-trimmed : trimmed (componentAt s at) ≡ componentAt s at
@@ -153,13 +153,13 @@ module _ (s : List ℕ) (at : ℕ) (few : recordCount (componentAt s at) ≤ 16)
   module _ (b : AreBytes s) where
     -- It is written as the bytes that it is in.
     pub read-component : (limit : ℕ) → limit ≤ length s → componentForm limit s at ≡ true
-        → drop at s ≡ componentBytes (componentAt s at) ++ drop (behind s at) s
+        → drop at s ≡ componentBytes (componentAt s at) ++ drop (componentEnd s at) s
     unfolding componentForm componentBytes
     read-component limit h e =
         let n = recordsAt s at in
-        let p = both-true (leb (behind s at) limit && componentMarks s at) (objectsForm n s (at + 40)) e in
-        let q = both-true (leb (behind s at) limit) (componentMarks s at) (p .0) in
-        let k : behind s at ≤ limit = leb-true (behind s at) limit (q .0) in
+        let p = both-true (leb (componentEnd s at) limit && componentMarks s at) (objectsForm n s (at + 40)) e in
+        let q = both-true (leb (componentEnd s at) limit) (componentMarks s at) (p .0) in
+        let k : componentEnd s at ≤ limit = leb-true (componentEnd s at) limit (q .0) in
         let os = objects-again s b n (at + 40) (omega arith) (p .1) in
         fields-again s b at (omega arith) (q .1) ∙ rw (os, read-records, append-assoc)
 
@@ -196,26 +196,26 @@ pub read-each : (n : ℕ) (s : List ℕ) (at : ℕ) → Few (componentsAt n s at
     → componentsForm n limit s at ≡ true → drop at s ≡ componentsBytes (componentsAt n s at) ++ drop (endFrom n s at) s
 read-each zero s at f b limit h e = refl
 read-each (suc n) s at f b limit h e =
-    let p = both-true (componentForm limit s at) (componentsForm n limit s (behind s at)) e in
-    let r = read-each n s (behind s at) (f .1) b limit h (p .1) in
+    let p = both-true (componentForm limit s at) (componentsForm n limit s (componentEnd s at)) e in
+    let r = read-each n s (componentEnd s at) (f .1) b limit h (p .1) in
     read-component s at (f .0) b limit h (p .0) ∙ rw (r, append-assoc)
 
 -- They end after the bytes that they take.
 pub read-ends : (n : ℕ) (s : List ℕ) (at : ℕ) → Few (componentsAt n s at)
     → endFrom n s at ≡ at + total (componentsAt n s at)
 read-ends zero s at f = omega arith
-read-ends (suc n) s at f = omega (arith, read-ends n s (behind s at) (f .1), read-behind s at (f .0))
+read-ends (suc n) s at f = omega (arith, read-ends n s (componentEnd s at) (f .1), read-component-end s at (f .0))
 
 -- They fit.
 pub read-all-fit : (n : ℕ) (s : List ℕ) (at : ℕ) → Few (componentsAt n s at) → AreBytes s → AllFit (componentsAt n s at)
 read-all-fit zero s at f b = tt
-read-all-fit (suc n) s at f b = (read-fits s at (f .0) b, read-all-fit n s (behind s at) (f .1) b)
+read-all-fit (suc n) s at f b = (read-fits s at (f .0) b, read-all-fit n s (componentEnd s at) (f .1) b)
 
 -- The unused places of their object arrays are blank.
 pub read-all-trimmed : (n : ℕ) (s : List ℕ) (at : ℕ) → Few (componentsAt n s at)
     → map trimmed (componentsAt n s at) ≡ componentsAt n s at
 read-all-trimmed zero s at f = refl
-read-all-trimmed (suc n) s at f = rw (read-trimmed s at (f .0), read-all-trimmed n s (behind s at) (f .1))
+read-all-trimmed (suc n) s at f = rw (read-trimmed s at (f .0), read-all-trimmed n s (componentEnd s at) (f .1))
 
 -- The tests that make the form of a head.
 head-tests : (s : List ℕ) → headForm s ≡ true → (i : ℕ)

@@ -5,7 +5,7 @@ use mathlib.Core.List.{List, map}
 use mathlib.Core.Bool.{true, cond}
 use lib.ListN.{length, getD, take}
 use lib.Seq.{sets, getD-take}
-use Rattle.page.specs.Form.{counted, behind, placesFrom, pagePlaces, pageEnd, formBy, pageForm}
+use Rattle.page.specs.Form.{counted, componentEnd, placesFrom, pagePlaces, pageEnd, formBy, pageForm}
 use Rattle.page.specs.Content.{componentAt, componentsOf}
 use Rattle.page.specs.FormLaws.{place-within, form-room, form-components, some-components, few-components, page-short, page-by}
 
@@ -25,7 +25,7 @@ pub record Walked (s : List ℕ) (places : List ℕ) : Type 0 where
   pub some : 1 ≤ counted s
   pub few : counted s ≤ 12
   pub components : map (componentAt s) (take (counted s) places) ≡ componentsOf s
-  pub within : (i : ℕ) → i < counted s → behind s (getD places i 0) ≤ length s
+  pub within : (i : ℕ) → i < counted s → componentEnd s (getD places i 0) ≤ length s
 
 pub walked-page : (s places : List ℕ) → pageForm s ≡ true → take (counted s) places ≡ placesFrom (counted s) s 16 → Walked s places
 unfolding componentsOf

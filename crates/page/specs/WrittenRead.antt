@@ -18,14 +18,14 @@ use Rattle.layout.specs.declared.Object.{Object}
 use Rattle.layout.specs.declared.Component.{Component}
 use Rattle.layout.specs.Records.{noObject, recordCount, recordsOf, packObjects}
 use Rattle.page.specs.declared.Head.{Head}
-use Rattle.page.specs.Form.{objectForm, objectsForm, componentMarks, recordsAt, behind, componentForm}
+use Rattle.page.specs.Form.{objectForm, objectsForm, componentMarks, recordsAt, componentEnd, componentForm}
 use Rattle.page.specs.Form.{componentsForm, placesFrom, endFrom, headForm, counted, pageEnd, formBy, pageForm}
 use Rattle.page.specs.Content.{objectAt, objectsAt, componentAt, headOf, componentsOf}
 use Rattle.page.specs.Bytes.{objectBytes, objectsBytes, words, longs, fieldBytes, componentBytes, sizeOf}
 use Rattle.page.specs.Bytes.{componentsBytes, headBytes, pageBytes}
 use Rattle.page.specs.Same.{trimmed, NumbersFit, Fits, AllFit, FitsHead}
 use Rattle.page.specs.BytesLaws.{length-object, length-fields, length-component, length-head, length-page, total}
-use Rattle.page.specs.PlaceLaws.{objects-from, objects-form-from, records-from, marks-from, behind-form-from}
+use Rattle.page.specs.PlaceLaws.{objects-from, objects-form-from, records-from, marks-from, after-form-from}
 use Rattle.page.specs.PlaceLaws.{component-from}
 
 -- An object record at the beginning of the bytes.
@@ -102,19 +102,19 @@ module _ (c : Component) (t : List ℕ) (f : Fits c) where
   records-first : recordsAt written 0 ≡ length (recordsOf c)
   records-first = records-read c (objectsBytes (recordsOf c) ++ t) (f .fit) ∙ sym (f .whole)
 
-  behind-rest : drop 40 written ≡ objectsBytes (recordsOf c) ++ t
-  behind-rest = drop-at (fieldBytes c) (objectsBytes (recordsOf c) ++ t) 40 (length-fields c)
+  after-rest : drop 40 written ≡ objectsBytes (recordsOf c) ++ t
+  after-rest = drop-at (fieldBytes c) (objectsBytes (recordsOf c) ++ t) 40 (length-fields c)
 
-  behind-read : objectsAt (min 16 (recordsAt written 0)) written 40 ≡ recordsOf c
-  behind-read =
+  after-read : objectsAt (min 16 (recordsAt written 0)) written 40 ≡ recordsOf c
+  after-read =
       let n = length (recordsOf c) in
       let h : n ≤ 16 = omega (arith, f .whole, f .few) in
-      rw (records-first, min-eq-right h, objects-from n written 40, behind-rest)
+      rw (records-first, min-eq-right h, objects-from n written 40, after-rest)
       (objects-read (recordsOf c) t (f .fit .targets) (f .fit .numbers))
 
-  behind-formed : objectsForm (recordsAt written 0) written 40 ≡ true
-  behind-formed =
-      rw (records-first, objects-form-from (length (recordsOf c)) written 40, behind-rest)
+  after-formed : objectsForm (recordsAt written 0) written 40 ≡ true
+  after-formed =
+      rw (records-first, objects-form-from (length (recordsOf c)) written 40, after-rest)
       (objects-formed (recordsOf c) t)
 
   component-first : componentAt written 0 ≡ trimmed c
@@ -131,7 +131,7 @@ module _ (c : Component) (t : List ℕ) (f : Fits c) where
         begin = le-enc 3 (c .begin) [] (f .fit .begin) i;
         end = le-enc 3 (c .end) [] (f .fit .end) i;
         «extension_size» = le-enc 3 (c .«extension_size») [] (f .fit .extension) i;
-        objects = packObjects (behind-read i);
+        objects = packObjects (after-read i);
       }
 
 -- A component at a place, if the bytes from the place on begin with its bytes. (After bytes p the place is length
@@ -151,26 +151,26 @@ module _ (s : List ℕ) (at : ℕ) (c : Component) (t : List ℕ) (e : drop at s
 
   -- Its object records have their form there.
   pub written-objects : objectsForm (recordsAt s at) s (at + 40) ≡ true
-  written-objects = rw (behind-form-from (recordsAt s at) s at, records-from s at, begins) (behind-formed c t f)
+  written-objects = rw (after-form-from (recordsAt s at) s at, records-from s at, begins) (after-formed c t f)
 
   -- It is read there, the unused places of its object array blank.
   pub written-component : componentAt s at ≡ trimmed c
   written-component = rw (component-from s at, begins) (component-first c t f)
 
   -- It ends after its bytes.
-  pub written-behind : behind s at ≡ at + sizeOf c
-  written-behind = rw written-records (omega (arith, f .whole))
+  pub written-component-end : componentEnd s at ≡ at + sizeOf c
+  written-component-end = rw written-records (omega (arith, f .whole))
 
   -- It has its form there, where it ends by the limit.
   pub written-form : (limit : ℕ) → at + sizeOf c ≤ limit → componentForm limit s at ≡ true
   unfolding componentForm
   written-form limit h =
-      true-both (true-both (le-leb (behind s at) limit (rw written-behind h)) written-marks) written-objects
+      true-both (true-both (le-leb (componentEnd s at) limit (rw written-component-end h)) written-marks) written-objects
 
   -- After it is what was after its bytes.
-  pub written-rest : drop (behind s at) s ≡ t
+  pub written-rest : drop (componentEnd s at) s ≡ t
   written-rest =
-      rw (written-behind, ← drop-drop (sizeOf c) at s, e) (drop-at (componentBytes c) t (sizeOf c) (length-component c))
+      rw (written-component-end, ← drop-drop (sizeOf c) at s, e) (drop-at (componentBytes c) t (sizeOf c) (length-component c))
 
 -- Components one after the other, if the bytes from a place on begin with their bytes: they have their form, if
 -- they end by the limit.
@@ -180,9 +180,9 @@ written-forms [] s at t e f limit h = refl
 written-forms (c ∷ cs) s at t e f limit h =
     let r = componentsBytes cs ++ t in
     let b : drop at s ≡ componentBytes c ++ r = e ∙ append-assoc (componentBytes c) (componentsBytes cs) t in
-    let w = written-behind s at c r b (f .0) in
+    let w = written-component-end s at c r b (f .0) in
     true-both (written-form s at c r b (f .0) limit (omega arith))
-    (written-forms cs s (behind s at) t (written-rest s at c r b (f .0)) (f .1) limit (omega arith))
+    (written-forms cs s (componentEnd s at) t (written-rest s at c r b (f .0)) (f .1) limit (omega arith))
 
 -- They are read there, the unused places of their object arrays blank.
 pub written-each : (cs : List Component) (s : List ℕ) (at : ℕ) (t : List ℕ) → drop at s ≡ componentsBytes cs ++ t
@@ -191,7 +191,7 @@ written-each [] s at t e f = refl
 written-each (c ∷ cs) s at t e f =
     let r = componentsBytes cs ++ t in
     let b : drop at s ≡ componentBytes c ++ r = e ∙ append-assoc (componentBytes c) (componentsBytes cs) t in
-    rw (written-component s at c r b (f .0), written-each cs s (behind s at) t (written-rest s at c r b (f .0)) (f .1))
+    rw (written-component s at c r b (f .0), written-each cs s (componentEnd s at) t (written-rest s at c r b (f .0)) (f .1))
 
 -- They end after their bytes.
 pub written-ends : (cs : List Component) (s : List ℕ) (at : ℕ) (t : List ℕ) → drop at s ≡ componentsBytes cs ++ t
@@ -200,8 +200,8 @@ written-ends [] s at t e f = omega arith
 written-ends (c ∷ cs) s at t e f =
     let r = componentsBytes cs ++ t in
     let b : drop at s ≡ componentBytes c ++ r = e ∙ append-assoc (componentBytes c) (componentsBytes cs) t in
-    let w = written-behind s at c r b (f .0) in
-    omega (arith, written-ends cs s (behind s at) t (written-rest s at c r b (f .0)) (f .1))
+    let w = written-component-end s at c r b (f .0) in
+    omega (arith, written-ends cs s (componentEnd s at) t (written-rest s at c r b (f .0)) (f .1))
 
 -- The numbers of a head at the beginning of the bytes.
 module _ (h : Head) (t : List ℕ) where

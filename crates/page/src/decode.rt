@@ -7,7 +7,7 @@ ghost use mathlib.Core.Path.{_≡_};
 ghost use Prim.Native.Nat.{_+_, _*_, _≤_, min};
 ghost use lib.ListN.{length};
 ghost use Rattle.layout.specs.Records.{packObjects};
-ghost use Rattle.page.specs.Form.{behind};
+ghost use Rattle.page.specs.Form.{componentEnd};
 ghost use Rattle.page.specs.Content.{objectAt, objectsAt, componentAt, headOf};
 
 // The object record at the place.
@@ -44,7 +44,7 @@ pub fn at_most_16(n: usize) -> usize
 
 // The component at the place, with its object records.
 pub fn component_at(s: &[u8], at: usize) -> Component
-    requires { ⌜ behind (now s) at ≤ length (now s) ⌝ }
+    requires { ⌜ componentEnd (now s) at ≤ length (now s) ⌝ }
     ensures { λ r. ⌜ r ≡ componentAt (now (s .entry)) at ⌝ }
 {
     let records = at_most_16(crate::form::record_count(s, at));

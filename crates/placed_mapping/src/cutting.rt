@@ -7,7 +7,7 @@ ghost use Prim.Native.Nat.{_*_, _≤_};
 ghost use lib.ListN.{length, take};
 ghost use lib.Seq.{sets};
 ghost use Rattle.lists.specs.Tests.{anyOf};
-ghost use Rattle.page.specs.Form.{behind};
+ghost use Rattle.page.specs.Form.{componentEnd};
 ghost use Rattle.page.specs.Content.{componentAt};
 ghost use Rattle.in_place.specs.Places.{componentsAt, ValidAt};
 ghost use Rattle.mapping.specs.Spans.{spanOf};
@@ -23,7 +23,7 @@ struct Asked {
 
 // The component at the place as cutting sees it.
 fn span_at(pages: &[u8], at: usize) -> Span
-    requires { ⌜ behind (now pages) at ≤ length (now pages) ⌝ }
+    requires { ⌜ componentEnd (now pages) at ≤ length (now pages) ⌝ }
     ensures { λ r. ⌜ r ≡ spanOf (componentAt (now (pages .entry)) at) ⌝ }
 {
     Span {

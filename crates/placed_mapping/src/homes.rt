@@ -6,7 +6,7 @@ ghost use Prim.Native.Nat.{_≤_};
 ghost use lib.ListN.{length, take};
 ghost use Rattle.layout.specs.Holder.{holderOf};
 ghost use Rattle.layout.specs.Facts.{IsInit};
-ghost use Rattle.page.specs.Form.{behind};
+ghost use Rattle.page.specs.Form.{componentEnd};
 ghost use Rattle.page.specs.Content.{componentAt};
 ghost use Rattle.in_place.specs.Places.{componentsAt, ValidAt};
 ghost use Rattle.mapping.specs.Homes.{homeIn};
@@ -32,7 +32,7 @@ fn holder(pages: &[u8], places: &[usize; 16], n: usize, offset: u64) -> usize
 // The home of a file byte by the init component at the place; the component's extent is not looked at. Of its object
 // records only that of the byte's stripe is read.
 fn home_at(pages: &[u8], at: usize, offset: u64) -> ObjectHome
-    requires { ⌜ (behind (now pages) at ≤ length (now pages)) × IsInit (componentAt (now pages) at) ⌝ }
+    requires { ⌜ (componentEnd (now pages) at ≤ length (now pages)) × IsInit (componentAt (now pages) at) ⌝ }
     ensures { λ r. ⌜ homeSays r ≡ homeIn (componentAt (now (pages .entry)) at) offset ⌝ }
 {
     let count = bytes_le::u16_at(pages, at + 6);

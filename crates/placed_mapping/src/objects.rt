@@ -6,7 +6,7 @@ ghost use lib.ListN.{length, take};
 ghost use Rattle.layout.specs.Records.{recordsOf};
 ghost use Rattle.layout.specs.Rows.{objectOf};
 ghost use Rattle.layout.specs.Facts.{IsInit};
-ghost use Rattle.page.specs.Form.{behind};
+ghost use Rattle.page.specs.Form.{componentEnd};
 ghost use Rattle.page.specs.Content.{componentAt};
 ghost use Rattle.in_place.specs.Places.{componentsAt, ValidAt};
 ghost use Rattle.mapping.specs.Answers.{answer};
@@ -16,7 +16,7 @@ ghost use Rattle.mapping.specs.Back.{positionIn, ownerOf, fileByteIn, hiddenRef
 // The position of the first object record of the component at the place with this target and number, or the number of
 // its records.
 fn position_at(pages: &[u8], at: usize, target: u32, number: u64) -> usize
-    requires { ⌜ behind (now pages) at ≤ length (now pages) ⌝ }
+    requires { ⌜ componentEnd (now pages) at ≤ length (now pages) ⌝ }
     ensures { λ r. ⌜ (r ≡ positionIn (objectOf target number) (recordsOf (componentAt (now (pages .entry)) at)))
         × (r ≤ 16) ⌝ }
 {
@@ -53,7 +53,7 @@ fn owner(pages: &[u8], places: &[usize; 16], n: usize, target: u32, number: u64)
 // The file byte of byte `byte` of the object with this target and number by the init component at the place, or 14
 // if it is outside the component's extent or not below 2^64.
 fn byte_at(pages: &[u8], at: usize, target: u32, number: u64, byte: u64) -> BackOut
-    requires { ⌜ (behind (now pages) at ≤ length (now pages)) × IsInit (componentAt (now pages) at) ⌝ }
+    requires { ⌜ (componentEnd (now pages) at ≤ length (now pages)) × IsInit (componentAt (now pages) at) ⌝ }
     ensures { λ r. ⌜ (let c = componentAt (now (pages .entry)) at in
         let b = fileByteIn c (objectOf target number) byte in
         backSays r ≡ answer (hiddenRefusal (c .begin) (c .end) b) b) ⌝ }

@@ -10,7 +10,7 @@ use lib.Seq.{sets, slice, sets-eq, length-sets, length-take-le, getD-take, getD-
 use borrow.Author.Tests.{ne-eqb, eq-eqb, le-leb, lt-leb, ltb-true, ltb-false}
 use Rattle.lists.specs.Bools.{bool-cases}
 use Rattle.lists.specs.Slices.{any-default}
-use Rattle.page.specs.Form.{recordsAt, behind, counted, placesFrom, pagePlaces, pageEnd, formBy}
+use Rattle.page.specs.Form.{recordsAt, componentEnd, counted, placesFrom, pagePlaces, pageEnd, formBy}
 use Rattle.page.specs.Content.{headOf}
 use Rattle.page.specs.FormLaws.{length-places, place-within, form-room, form-components, page-within, some-components}
 use Rattle.collector.specs.Taking.{isNext}
@@ -115,9 +115,9 @@ module _ (s : List ℕ) (p : Progress) (places : List ℕ) (k : InRange s p plac
 
       first-kept : take (p .count) after ≡ take (p .count) places
       first-kept =
-          let behind-new = drop (p .count + length new) places in
-          rw (stored, append-assoc (take (p .count) places) new behind-new)
-          (take-at (take (p .count) places) (new ++ behind-new) (p .count) first-length)
+          let after-new = drop (p .count + length new) places in
+          rw (stored, append-assoc (take (p .count) places) new after-new)
+          (take-at (take (p .count) places) (new ++ after-new) (p .count) first-length)
 
       -- The places of all components so far.
       pub all-places : take (p .count + counted rest) after ≡ take (p .count) places ++ new
@@ -132,7 +132,7 @@ module _ (s : List ℕ) (p : Progress) (places : List ℕ) (k : InRange s p plac
       new-places = rw all-places (drop-at (take (p .count) places) new (p .count) first-length)
 
       -- Each component of the page ends by the end of the bytes.
-      new-within : (i : ℕ) → i < counted rest → behind s (getD new i 0) ≤ length s
+      new-within : (i : ℕ) → i < counted rest → componentEnd s (getD new i 0) ≤ length s
       new-within i h =
           let qs = placesFrom (counted rest) rest 16 in
           let q = getD qs i 0 in

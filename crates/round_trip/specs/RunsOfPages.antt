@@ -75,9 +75,9 @@ listed-first p t e =
     let two = u16-length n in
     let whole : length (u ++ p) ≡ 2 + n = length-append u p ∙ rw two in
     let size : length s ≡ 2 + n + length t = length-append (u ++ p) t ∙ rw whole in
-    let behind : s ≡ u ++ (p ++ t) = append-assoc u p t in
-    let read : u16At s 0 ≡ n = rw behind (u16-back n (p ++ t) (omega arith)) in
-    let page : drop 2 s ≡ p ++ t = rw behind (drop-at u (p ++ t) 2 two) in
+    let componentEnd : s ≡ u ++ (p ++ t) = append-assoc u p t in
+    let read : u16At s 0 ≡ n = rw componentEnd (u16-back n (p ++ t) (omega arith)) in
+    let page : drop 2 s ≡ p ++ t = rw componentEnd (drop-at u (p ++ t) 2 two) in
     listed-next s (omega arith) (omega arith) (omega arith) (omega arith)
     ∙ rw (read, page, take-append-seam p t, drop-at (u ++ p) t (2 + n) whole)
 

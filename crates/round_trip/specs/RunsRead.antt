@@ -48,7 +48,7 @@ pub record FromPages (join : List (List ℕ) → List ℕ) (c : Collector) (s : 
 pub record PutsTogether (cut : List ℕ → Next) (join : List (List ℕ) → List ℕ) : Type 0 where
   pub empty : join [] ≡ []
   pub page : (s p rest : List ℕ) → AreBytes s → cut s ≡ next p rest → AreBytes p
-  pub behind : (s p rest : List ℕ) → AreBytes s → cut s ≡ next p rest → AreBytes rest
+  pub componentEnd : (s p rest : List ℕ) → AreBytes s → cut s ≡ next p rest → AreBytes rest
   pub both : (s p rest : List ℕ) → AreBytes s → cut s ≡ next p rest → (ps : List (List ℕ)) → rest ≡ join ps
       → s ≡ join (p ∷ ps)
 
@@ -72,7 +72,7 @@ module _ {cut : List ℕ → Next} {join : List (List ℕ) → List ℕ} (w : Pu
   page-next left on c s (next p rest) b e z =
       let k = numberOf (pageIn c p .answer) in
       bool-cases (eqb k 0)
-      (λ t. let r = on (pageIn c p .collector) rest (w .behind s p rest b e) (rw t at z) in
+      (λ t. let r = on (pageIn c p .collector) rest (w .componentEnd s p rest b e) (rw t at z) in
       record {
         pages = p ∷ r .pages;
         each = (w .page s p rest b e, r .each);
@@ -156,7 +156,7 @@ host-together =
     record {
       empty = refl;
       page = λ s p rest b e. bytes-append-left p rest (rw (host-parts s p rest e) at b);
-      behind = λ s p rest b e. bytes-append-right p rest (rw (host-parts s p rest e) at b);
+      componentEnd = λ s p rest b e. bytes-append-right p rest (rw (host-parts s p rest e) at b);
       both = λ s p rest b e ps r. host-parts s p rest e ∙ ap (λ (t : List ℕ). p ++ t) r;
     }
 
@@ -168,7 +168,7 @@ listed-together =
       page = λ s p rest b e.
           let u = u16Bytes (length p) in
           bytes-append-right u p (bytes-append-left (u ++ p) rest (rw (listed-parts s p rest b e) at b));
-      behind = λ s p rest b e.
+      componentEnd = λ s p rest b e.
           bytes-append-right (u16Bytes (length p) ++ p) rest (rw (listed-parts s p rest b e) at b);
       both = λ s p rest b e ps r.
           listed-parts s p rest b e ∙ ap (λ (t : List ℕ). u16Bytes (length p) ++ p ++ t) r;

@@ -84,9 +84,9 @@ page-unfit room used q ds e f k =
     first-unfit (counted q) q 16 room used ds (some-components (length q) q (page-by q e)) f k
 
 -- What was paged by the writer's rule was so from its second page on too.
-rule-behind : (p : List ℕ) (ps : List (List ℕ)) → pagedByRule (p ∷ ps) ≡ true → pagedByRule ps ≡ true
-rule-behind p [] e = refl
-rule-behind p (q ∷ qs) e = both-true (ltb 512 (length p + firstSize q)) (pagedByRule (q ∷ qs)) e .1
+rule-after : (p : List ℕ) (ps : List (List ℕ)) → pagedByRule (p ∷ ps) ≡ true → pagedByRule ps ≡ true
+rule-after p [] e = refl
+rule-after p (q ∷ qs) e = both-true (ltb 512 (length p + firstSize q)) (pagedByRule (q ∷ qs)) e .1
 
 -- The first component of its second page, if there is one, does not fit into the first page.
 rule-unfit : (g k : ℕ) (p : List ℕ) (ps : List (List ℕ)) → ArePages g k (p ∷ ps) → Few (componentsIn (p ∷ ps))
@@ -152,5 +152,5 @@ pages-same (suc n) k l (p ∷ ps) b a f e x h =
     let next : fromPage (suc k) (view l) ≡ componentsIn ps =
     next-page k (view l) ∙ ap laterPages x ∙ later-same g k p ps a f e in
     let few = few-right (componentsOf p) (componentsIn ps) f in
-    let rest = pages-same n (suc k) l ps (b .1) (a .1) few (rule-behind p ps e) next (omega arith) in
+    let rest = pages-same n (suc k) l ps (b .1) (a .1) few (rule-after p ps e) next (omega arith) in
     rw (some, page, rest)

@@ -106,10 +106,10 @@ written-from l v m fits (suc n) k most =
     let has = ltb-true (startOf l k) (length (view l)) (sym (page-there l k) ∙ e) in
     let page = page-back l v m k has fits in
     let r = written-from l v m fits n (suc k) (omega (arith, start-rises l v k has)) in
-    let behind : componentsIn later ≡ map trimmed (laterPages rest) =
+    let componentEnd : componentsIn later ≡ map trimmed (laterPages rest) =
     r .components ∙ ap (map trimmed) (next-page k (view l)) in
     let more : isSome (laterPages rest) ≡ somePages later =
-    sym (some-trimmed (laterPages rest)) ∙ ap isSome (sym behind) ∙ some-left g (suc k) later (r .pages) in
+    sym (some-trimmed (laterPages rest)) ∙ ap isSome (sym componentEnd) ∙ some-left g (suc k) later (r .pages) in
     let first : IsPage g k (somePages later) (writtenPage l k) =
     record {
       form = page .0;
@@ -118,7 +118,7 @@ written-from l v m fits (suc n) k most =
       follows = ap (λ (h : Head). h .more) (page .1) ∙ more;
     } in
     let all : componentsOf (writtenPage l k) ++ componentsIn later ≡ map trimmed rest =
-    rw (page .2, behind, ← map-append trimmed (firstPage rest) (laterPages rest), first-later rest) in
+    rw (page .2, componentEnd, ← map-append trimmed (firstPage rest) (laterPages rest), first-later rest) in
     rw (written-cons n k l e) (record { pages = (first, r .pages); components = all }))
     (λ e. none-written l (suc n) k e)
 

@@ -9,7 +9,7 @@ use borrow.Author.Tests.{not-true, not-false}
 use denote.Ref.{now}
 use Rattle.bytes_le.specs.Numbers.{i32At}
 use Rattle.layout.specs.Fields.{isMinusOne, isTarget}
-use Rattle.in_place.proofs.FirstRecord.{first-blank, first-missing, first-behind}
+use Rattle.in_place.proofs.FirstRecord.{first-blank, first-missing, first-after}
 use borrow.Author.Needs.{needs}
 use Rattle.in_place.proofs.fields.first_target_ok.Statement.{statement}
 use Rattle.in_place.proofs.fields.first_target_ok.Tie as tie
@@ -40,7 +40,7 @@ returns-3 c =
     let e = toZ-ofZ (sfits-of (i .ok)) ∙ i .ensures in
     let b = not-false (a .init) (c .before .before .before .if1 .left) in
     let t = c .before .u32-at in
-    rw (b, first-behind z (now (a .s)) (a .at) (a .n) h)
+    rw (b, first-after z (now (a .s)) (a .at) (a .n) h)
     (c .is-target .ensures ∙ ap (λ (y : ℤ). isTarget y (t .result)) e ∙ ap (isTarget z) (t .ensures))
 
 pub first-target-ok-spec : {M : Type 1} → statement M

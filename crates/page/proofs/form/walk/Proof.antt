@@ -8,7 +8,7 @@ use lib.ListN.{length, take, length-set}
 use lib.Seq.{sets, take-set-le}
 use denote.Ref.{now}
 use borrow.Author.Tests.{not-true, not-false}
-use Rattle.page.specs.Form.{objectsForm, componentMarks, recordsAt, behind, componentForm, componentsForm, placesFrom}
+use Rattle.page.specs.Form.{objectsForm, componentMarks, recordsAt, componentEnd, componentForm, componentsForm, placesFrom}
 use Rattle.page.specs.Form.{endFrom, pagePlaces, pageEnd, formBy}
 use Rattle.page.specs.FormLaws.{component-of}
 use Rattle.page.proofs.Walking.{past-limit, marks-wrong, objects-wrong}
@@ -81,21 +81,21 @@ fault c e =
 within : (c : tie.Else4 Inv-loop μ-loop) →
     (let p = c .before .before .before .before in
     let a = p .before .before .before .before .before .before .args in
-    behind (now (a .s)) (p .loop .at) ≤ a .limit)
+    componentEnd (now (a .s)) (p .loop .at) ≤ a .limit)
 within c = omega arith
 
 returns-3 : tie.Need-returns-3 Inv-loop μ-loop
 returns-3 c =
     let p = c .before .before in
     let a = p .before .before .before .before .before .before .args in
-    let h : a .limit < behind (now (a .s)) (p .loop .at) = omega arith in
+    let h : a .limit < componentEnd (now (a .s)) (p .loop .at) = omega arith in
     fault (c .before) (past-limit (a .limit) (now (a .s)) (p .loop .at) h)
 
 returns-4 : tie.Need-returns-4 Inv-loop μ-loop
 returns-4 c =
     let p = c .before .before .before .before in
     let a = p .before .before .before .before .before .before .args in
-    let h : a .limit < behind (now (a .s)) (p .loop .at) = omega arith in
+    let h : a .limit < componentEnd (now (a .s)) (p .loop .at) = omega arith in
     fault (c .before .before .before) (past-limit (a .limit) (now (a .s)) (p .loop .at) h)
 
 returns-5 : tie.Need-returns-5 Inv-loop μ-loop

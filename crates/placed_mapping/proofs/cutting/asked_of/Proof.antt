@@ -10,7 +10,7 @@ use lib.Seq.{slice}
 use denote.Ref.{now}
 use borrow.Author.Needs.{needs}
 use Rattle.lists.specs.Tests.{anyOf}
-use Rattle.page.specs.Form.{behind}
+use Rattle.page.specs.Form.{componentEnd}
 use Rattle.mapping.specs.Cutting.{notInitAsked, pieceCount}
 use Rattle.placed_mapping.specs.Spans.{spansAt}
 use Rattle.placed_mapping.specs.SpanLaws.{spans-done}
@@ -35,7 +35,7 @@ loop-holds c = (search needs, search needs, refl, sym (zero-add _))
 
 -- The component at place i ends by the end of the bytes.
 within : (c : tie.In-loop Inv-loop μ-loop) → let a = c .before .before .before .args in
-    behind (now (a .pages)) (getD (now (a .places)) (c .before .loop .i) 0) ≤ length (now (a .pages))
+    componentEnd (now (a .pages)) (getD (now (a .places)) (c .before .loop .i) 0) ≤ length (now (a .pages))
 within c = c .before .before .before .pre .0 .2 (c .before .loop .i) (c .loop-test .taken)
 
 part-count-requires : tie.Need-part-count-requires Inv-loop μ-loop

@@ -7,7 +7,7 @@ use lib.ListN.{length, getD, take}
 use lib.Seq.{sets, slice}
 use denote.Ref.{now}
 use borrow.Author.Needs.{needs}
-use Rattle.page.specs.Form.{behind}
+use Rattle.page.specs.Form.{componentEnd}
 use Rattle.mapping.specs.Cutting.{partCount, piecesOf, pieceCount, allNumbers}
 use Rattle.placed_mapping.specs.Spans.{spansAt}
 use Rattle.placed_mapping.specs.SpanLaws.{spans-done}
@@ -32,7 +32,7 @@ loop-holds c = (search needs, refl, omega arith, refl)
 
 -- The component at place i ends by the end of the bytes.
 within : (c : tie.In-loop Inv-loop μ-loop) → let a = c .before .before .before .before .args in
-    behind (now (a .pages)) (getD (now (a .places)) (c .before .loop .i) 0) ≤ length (now (a .pages))
+    componentEnd (now (a .pages)) (getD (now (a .places)) (c .before .loop .i) 0) ≤ length (now (a .pages))
 within c = c .before .before .before .before .pre .0 .2 (c .before .loop .i) (c .loop-test .taken)
 
 -- The pieces of the components from place i on are those of component i and of those after it.

@@ -7,7 +7,7 @@ use lib.ListN.{length, getD, take}
 use denote.Ref.{now}
 use borrow.Author.Needs.{needs}
 use Rattle.layout.specs.Holder.{lastEnd}
-use Rattle.page.specs.Form.{behind}
+use Rattle.page.specs.Form.{componentEnd}
 use Rattle.in_place.specs.Places.{componentsAt}
 use Rattle.mapping.specs.Cutting.{cutRefusal}
 use Rattle.mapping.specs.CuttingLaws.{refused-9, refused-10, refused-11, refused-12}
@@ -21,7 +21,7 @@ returns c = let a = c .before .before .args in refused-9 _ (a .offset) (a .bytes
 
 -- The last component ends by the end of the bytes.
 within : (c : tie.Else1) → let a = c .before .before .args in
-    behind (now (a .pages)) (getD (now (a .places)) (a .n - 1) 0) ≤ length (now (a .pages))
+    componentEnd (now (a .pages)) (getD (now (a .places)) (a .n - 1) 0) ≤ length (now (a .pages))
 within c = let s = c .before .before in s .pre .0 .2 (s .args .n - 1) (omega arith)
 
 -- The number that was read is the last end.

@@ -13,7 +13,7 @@ use borrow.Author.Tests.{lt-ltb, le-ltb}
 use Rattle.layout.specs.declared.Component.{Component}
 use Rattle.layout.specs.Holder.{holderOf}
 use Rattle.layout.specs.HolderLaws.{endsAbove, holder-ends}
-use Rattle.page.specs.Form.{behind}
+use Rattle.page.specs.Form.{componentEnd}
 use Rattle.in_place.specs.Places.{componentsAt}
 use Rattle.placed_mapping.specs.FieldLaws.{end-at}
 use Rattle.placed_mapping.specs.ValidLaws.{valid-keeps}
@@ -42,7 +42,7 @@ loop-holds c =
 
 -- The component at place i ends by the end of the bytes.
 within : (c : tie.In-loop Inv-loop μ-loop) → let a = c .before .before .before .args in
-    behind (now (a .pages)) (getD (now (a .places)) (c .before .loop .i) 0) ≤ length (now (a .pages))
+    componentEnd (now (a .pages)) (getD (now (a .places)) (c .before .loop .i) 0) ≤ length (now (a .pages))
 within c = c .before .before .before .pre .0 .2 (c .before .loop .i) (c .loop-test .taken)
 
 returns : tie.Need-returns Inv-loop μ-loop

@@ -9,7 +9,7 @@ use denote.Ref.{now}
 use borrow.Author.Needs.{needs}
 use borrow.Author.Tests.{not-true, not-false}
 use Rattle.bytes_le.specs.Flags.{isSet}
-use Rattle.page.specs.Form.{behind}
+use Rattle.page.specs.Form.{componentEnd}
 use Rattle.page.specs.Content.{componentAt}
 use Rattle.mapping.specs.Answers.{gives}
 use Rattle.mapping.specs.Homes.{Home}
@@ -31,7 +31,7 @@ returns c =
 
 -- The component at place i ends by the end of the bytes.
 within : (c : tie.Else1) → let a = c .before .before .before .args in
-    behind (now (a .pages)) (getD (now (a .places)) (c .before .holder .result) 0) ≤ length (now (a .pages))
+    componentEnd (now (a .pages)) (getD (now (a .places)) (c .before .holder .result) 0) ≤ length (now (a .pages))
 within c = c .before .before .before .pre .0 .2 (c .before .holder .result) (c .if1 .left)
 
 add-u16-at : tie.Need-add-u16-at

@@ -16,7 +16,7 @@ use Rattle.layout.specs.declared.Component.{Component}
 use Rattle.layout.specs.Records.{recordsOf}
 use Rattle.layout.specs.Rows.{objectOf}
 use Rattle.layout.specs.Distinct.{sameObject}
-use Rattle.page.specs.Form.{behind}
+use Rattle.page.specs.Form.{componentEnd}
 use Rattle.page.specs.Content.{componentAt}
 use Rattle.in_place.specs.Places.{componentsAt}
 use Rattle.in_place.specs.RecordLaws.{records-length}
@@ -86,7 +86,7 @@ returns-2 c =
 
 -- The component at place i ends by the end of the bytes.
 within : (c : tie.In-loop Inv-loop μ-loop) → let a = c .before .before .before .args in
-    behind (now (a .pages)) (getD (now (a .places)) (c .before .loop .i) 0) ≤ length (now (a .pages))
+    componentEnd (now (a .pages)) (getD (now (a .places)) (c .before .loop .i) 0) ≤ length (now (a .pages))
 within c = c .before .before .before .pre .0 .2 (c .before .loop .i) (c .loop-test .taken)
 
 pub owner-spec : {M : Type 1} → statement M

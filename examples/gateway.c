@@ -43,7 +43,7 @@ static struct moorsickle_target table[] = {
 static const char *const meaning[] = {
     "done",
     "the pages end before the layout is complete",
-    "bytes stand after the last page",
+    "there are bytes after the last page",
     "a page is not of the right form",
     "a page has the wrong number or generation",
     "the layout has more than 16 components",

@@ -23,11 +23,10 @@ count-is s h e = ap (λ (x : Head). x .count) e ∙ head-count s ∙ sym (length
 
 -- The layout that was built has the page's components after its own.
 pub next-is : (s places : List ℕ) (h : Head) (l next : Layout) → Walked s places → h ≡ headOf s
-    → next ≡ joined (h .generation) l (map (componentAt s) (take (h .count) places))
-    → next ≡ joined (headOf s .generation) l (componentsOf s)
+    → next ≡ joined h l (map (componentAt s) (take (h .count) places))
+    → next ≡ joined (headOf s) l (componentsOf s)
 next-is s places h l next k e f =
     let n : h .count ≡ counted s = ap (λ (x : Head). x .count) e ∙ head-count s in
     let cs : map (componentAt s) (take (h .count) places) ≡ componentsOf s =
     ap (λ (m : ℕ). map (componentAt s) (take m places)) n ∙ k .components in
-    f ∙ ap (λ (x : List Component). joined (h .generation) l x) cs
-    ∙ ap (λ (x : Head). joined (x .generation) l (componentsOf s)) e
+    f ∙ ap (λ (x : List Component). joined h l x) cs ∙ ap (λ (x : Head). joined x l (componentsOf s)) e

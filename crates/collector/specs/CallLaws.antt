@@ -1,12 +1,12 @@
 -- What a caller of the collector may rely on, over all collectors and all bytes.
 use Prim.Native.Nat.{ℕ, zero, suc, _<_}
 use mathlib.Core.Path.{_≡_, refl, ap, _∙_}
-use mathlib.Core.List.{List, []}
+use mathlib.Core.List.{List}
 use mathlib.Core.Bool.{true, false, cond}
 use native.Mathlib.Omega.{arith}
 use Rattle.lists.specs.Bools.{bool-cases}
 use Rattle.layout.specs.declared.Component.{Component}
-use Rattle.layout.specs.Records.{packed}
+use Rattle.layout.specs.Records.{noLayout}
 use Rattle.page.specs.declared.Head.{Head}
 use Rattle.page.specs.Content.{headOf, componentsOf}
 use Rattle.collector.specs.declared.Collector.{Collector}
@@ -54,11 +54,11 @@ module _ (c : Collector) (s : List ℕ) where
   refused-again h p = ap (λ (d : Collector). pageIn d p) (refused-collector h)
 
   -- After a page that says that more follow, pages are outstanding,
-  pub more-outstanding : pageRefusal c s ≡ 0 → headOf s .more ≡ true → pageIn c s .collector .complete ≡ false
-  more-outstanding e m = ap (λ (d : Collector). d .complete) (taken-collector e) ∙ rw m
+  pub more-outstanding : pageRefusal c s ≡ 0 → headOf s .more ≡ true → pageIn c s .collector .layout .complete ≡ false
+  more-outstanding e m = ap (λ (d : Collector). d .layout .complete) (taken-collector e) ∙ rw m
 
 -- and a collector with pages outstanding never gives a layout.
-pub outstanding-none : (c : Collector) → c .complete ≡ false
-    → layoutOut c ≡ record { refusal = 1; layout = packed 0 [] }
+pub outstanding-none : (c : Collector) → c .layout .complete ≡ false
+    → layoutOut c ≡ record { refusal = 1; layout = noLayout }
 unfolding layoutOut
 outstanding-none c e = bool-cases (collectorOk c) (λ k. rw (k, e)) (λ k. rw k)

@@ -1,17 +1,17 @@
 -- A collector, and the rules that one keeps.
 use Prim.Native.Nat.{ℕ}
-use mathlib.Core.List.{List, []}
-use mathlib.Core.Bool.{Bool, false, not, _&&_, Bool·beq}
+use mathlib.Core.List.{List}
+use mathlib.Core.Bool.{Bool, not, _&&_, Bool·beq}
 use lib.Dec.{eqb, leb}
 use lib.ListN.{length}
 use Rattle.layout.specs.declared.Component.{Component}
-use Rattle.layout.specs.Records.{view, packed}
+use Rattle.layout.specs.Records.{view, noLayout}
 use Rattle.layout.specs.Rules.{ruleBroken}
 use Rattle.collector.specs.declared.Collector.{Collector}
 
 -- A collector that has taken no page.
 abbrev pub newCollector : Collector
-newCollector = record { pages = 0; complete = false; layout = packed 0 [] }
+newCollector = record { pages = 0; layout = noLayout }
 
 -- The components gathered so far.
 abbrev pub gathered : Collector → List Component
@@ -29,6 +29,6 @@ countsAgree pages complete components =
 unfoldable pub collectorOk : Collector → Bool
 collectorOk c =
     leb (c .layout .count) 16
-    && countsAgree (c .pages) (c .complete) (c .layout .count)
+    && countsAgree (c .pages) (c .layout .complete) (c .layout .count)
     && eqb (length (gathered c)) (c .layout .count)
-    && eqb (ruleBroken (not (c .complete)) (gathered c)) 0
+    && eqb (ruleBroken (not (c .layout .complete)) (gathered c)) 0

@@ -87,7 +87,7 @@ listed-next-at s at n e h k l =
 -- The host's next page, if some bytes are left.
 module _ (s : List ℕ) (some : 0 < length s) where
   -- If the bytes do not begin with a page of good form, the reading ends with 3.
-  pub host-fault : (c : Collector) → Held c → c .complete ≡ false → formBy (min 512 (length s)) s ≡ false
+  pub host-fault : (c : Collector) → Held c → c .layout .complete ≡ false → formBy (min 512 (length s)) s ≡ false
       → readFrom hostCut c s ≡ refusedAt 3 (c .pages)
   host-fault c h e f =
       let whole = leb (pageEnd s) (length s) in
@@ -105,7 +105,7 @@ module _ (s : List ℕ) (some : 0 < length s) where
     pub host-page : hostCut s ≡ next (take (pageEnd s) s) (drop (pageEnd s) s)
     host-page = host-next s some (first-cut s f .0)
 
-    pub host-content : (c : Collector) → c .complete ≡ false
+    pub host-content : (c : Collector) → c .layout .complete ≡ false
         → openIn c (take (pageEnd s) s) ≡ contentIn c (headOf s) (componentsOf s)
     host-content c e =
         let t = take (pageEnd s) s in

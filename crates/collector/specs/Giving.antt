@@ -1,7 +1,6 @@
 -- The layout out of a collector.
-use mathlib.Core.List.{[]}
 use mathlib.Core.Bool.{cond, _&&_}
-use Rattle.layout.specs.Records.{packed}
+use Rattle.layout.specs.Records.{packed, noLayout}
 use Rattle.collector.specs.declared.Collector.{Collector}
 use Rattle.collector.specs.declared.LayoutOut.{LayoutOut}
 use Rattle.collector.specs.Collector.{gathered, collectorOk}
@@ -10,6 +9,6 @@ use Rattle.collector.specs.Collector.{gathered, collectorOk}
 -- layout.
 unfoldable pub layoutOut : Collector → LayoutOut
 layoutOut c =
-    cond (collectorOk c && c .complete)
+    cond (collectorOk c && c .layout .complete)
     (record { refusal = 0; layout = packed (c .layout .generation) (gathered c) })
-    (record { refusal = 1; layout = packed 0 [] })
+    (record { refusal = 1; layout = noLayout })

@@ -35,9 +35,9 @@ readFrom cut c s = readOn cut (17 - c .pages) c s
 
 -- A page that is refused by no number is a page, and what it says is refused by no number.
 pub open-taken : (c : Collector) (p : List ℕ) → openRefusal c p ≡ 0
-    → (c .complete ≡ false) × (pageForm p ≡ true) × (contentRefusal c (headOf p) (componentsOf p) ≡ 0)
+    → (c .layout .complete ≡ false) × (pageForm p ≡ true) × (contentRefusal c (headOf p) (componentsOf p) ≡ 0)
 open-taken c p e =
-    bool-cases (c .complete)
+    bool-cases (c .layout .complete)
     (λ x. absurd (omega (arith, refused-2 c p x)))
     (λ x. bool-cases (pageForm p)
     (λ y. (x, y, sym (refused-content c p x y) ∙ e))
@@ -78,11 +78,11 @@ module _ (c : Collector) (h : Held c) where
 
   module _ (cut : List ℕ → Next) (s : List ℕ) where
     -- Complete: the reading is closed.
-    pub read-closed : c .complete ≡ true → readFrom cut c s ≡ closed c s
+    pub read-closed : c .layout .complete ≡ true → readFrom cut c s ≡ closed c s
     read-closed e = rw (left, e)
 
     -- Not complete: by what is next.
-    module _ (e : c .complete ≡ false) where
+    module _ (e : c .layout .complete ≡ false) where
       read-next : readFrom cut c s ≡ following (readOn cut (16 - c .pages)) c (cut s)
       read-next = rw (left, e)
 
@@ -130,7 +130,7 @@ module _ (cut : List ℕ → Next) where
   read-enough zero c s h k = absurd (omega (arith, h .sound .within, h .sound .few))
   read-enough (suc n) c s h k =
       let by : Bool → Reading = λ b. cond b (closed c s) (following (readOn cut n) c (cut s)) in
-      bool-cases (c .complete)
+      bool-cases (c .layout .complete)
       (λ e. ap by e ∙ sym (read-closed c h cut s e))
       (λ e. ap by e ∙ on-enough n (read-enough n) c h k (cut s) ∙ sym (read-next c h cut s e))
 

@@ -6,7 +6,7 @@ use mathlib.Core.Bool.{cond, _&&_}
 use lib.Dec.{eqb, leb}
 use lib.ListN.{length, take, drop}
 use Rattle.bytes_le.specs.Numbers.{u16At}
-use Rattle.layout.specs.Records.{packed}
+use Rattle.layout.specs.Records.{packed, noLayout}
 use Rattle.page.specs.Form.{pageEnd}
 use Rattle.collector.specs.declared.Collector.{Collector}
 use Rattle.collector.specs.declared.Reading.{Reading}
@@ -21,7 +21,7 @@ pub data Next : Type 0 where
 
 -- A reading that ends with a refusal at page p, counted from 0.
 abbrev pub refusedAt : ℕ → ℕ → Reading
-refusedAt n p = record { refusal = n; page = p; layout = packed 0 [] }
+refusedAt n p = record { refusal = n; page = p; layout = noLayout }
 
 -- A reading whose collector is complete: "after the last page any byte gives 2".
 abbrev pub closed : Collector → List ℕ → Reading
@@ -42,7 +42,7 @@ following on c (next p rest) =
 -- Reading on until complete, with at most `left` pages to come.
 abbrev pub readOn : (List ℕ → Next) → ℕ → Collector → List ℕ → Reading
 readOn cut zero c s = refusedAt 5 (c .pages)
-readOn cut (suc left) c s = cond (c .complete) (closed c s) (following (readOn cut left) c (cut s))
+readOn cut (suc left) c s = cond (c .layout .complete) (closed c s) (following (readOn cut left) c (cut s))
 
 -- Reading from a new collector. It takes at most 16 pages, since each has a component, and the 17th look at the bytes
 -- finds it complete or refuses; so the reading never ends for want of pages to come.

@@ -24,10 +24,10 @@ use Rattle.collector.specs.Taking.{isNext, joined, added, contentRefusal
 pub record Sound (c : Collector) : Type 0 where
   pub few : c .layout .count ≤ 16
   pub none : c .pages ≡ 0 → c .layout .count ≡ 0
-  pub unfinished : c .pages ≡ 0 → c .complete ≡ false
+  pub unfinished : c .pages ≡ 0 → c .layout .complete ≡ false
   pub within : c .pages ≤ c .layout .count
   pub whole : length (gathered c) ≡ c .layout .count
-  pub kept : ruleBroken (not (c .complete)) (gathered c) ≡ 0
+  pub kept : ruleBroken (not (c .layout .complete)) (gathered c) ≡ 0
 
 -- The tests of a collector give the facts.
 pub sound-facts : (c : Collector) → collectorOk c ≡ true → Sound c
@@ -35,23 +35,23 @@ unfolding collectorOk countsAgree
 sound-facts c e =
     let n = c .layout .count in
     let same = Bool·beq (eqb (c .pages) 0) (eqb n 0) in
-    let done = c .complete && eqb (c .pages) 0 in
+    let done = c .layout .complete && eqb (c .pages) 0 in
     let shut = not done in
-    let agree = countsAgree (c .pages) (c .complete) n in
+    let agree = countsAgree (c .pages) (c .layout .complete) n in
     let whole = eqb (length (gathered c)) n in
-    let kept = eqb (ruleBroken (not (c .complete)) (gathered c)) 0 in
+    let kept = eqb (ruleBroken (not (c .layout .complete)) (gathered c)) 0 in
     let p = conjunction-at (leb n 16) (agree ∷ whole ∷ kept ∷ []) e in
     let q = conjunction-at same (shut ∷ leb (c .pages) n ∷ []) (p 1) in
     record {
       few = leb-true n 16 (p 0);
       none = λ z. eqb-true n 0 (sym (beq-true (eqb (c .pages) 0) (eqb n 0) (q 0)) ∙ eq-eqb (c .pages) 0 z);
       unfinished =
-          λ z. bool-cases (c .complete)
+          λ z. bool-cases (c .layout .complete)
           (λ y. clash {b = done} (true-both y (eq-eqb (c .pages) 0 z)) (not-true done (q 1)))
           (λ y. y);
       within = leb-true (c .pages) n (q 2);
       whole = eqb-true (length (gathered c)) n (p 2);
-      kept = eqb-true (ruleBroken (not (c .complete)) (gathered c)) 0 (p 3);
+      kept = eqb-true (ruleBroken (not (c .layout .complete)) (gathered c)) 0 (p 3);
     }
 
 -- If each of two numbers is 0 when the other is, the two tests for 0 are the same.
@@ -65,18 +65,18 @@ pub facts-sound : (c : Collector) → Sound c → collectorOk c ≡ true
 unfolding collectorOk countsAgree
 facts-sound c s =
     let n = c .layout .count in
-    let shut : not (c .complete && eqb (c .pages) 0) ≡ true =
+    let shut : not (c .layout .complete && eqb (c .pages) 0) ≡ true =
     bool-cases (eqb (c .pages) 0)
     (λ z. rw (s .unfinished (eqb-true (c .pages) 0 z)))
-    (λ z. bool-cases (c .complete) (λ y. rw (y, z)) (λ y. rw y)) in
+    (λ z. bool-cases (c .layout .complete) (λ y. rw (y, z)) (λ y. rw y)) in
     let same = zero-alike (c .pages) n (s .none) (s .within) in
     let whole = eq-eqb (length (gathered c)) n (s .whole) in
     rw (le-leb n 16 (s .few), same, shut, le-leb (c .pages) n (s .within), whole, s .kept)
 
 -- Components after those of a layout, if its array has room for them.
-pub view-joined : (g : ℕ) (l : Layout) (cs : List Component) → l .count + length cs ≤ length (l .components)
-    → view (joined g l cs) ≡ view l ++ cs
-view-joined g l cs h =
+pub view-joined : (head : Head) (l : Layout) (cs : List Component) → l .count + length cs ≤ length (l .components)
+    → view (joined head l cs) ≡ view l ++ cs
+view-joined head l cs h =
     let n = l .count in
     let t = take n (l .components) in
     let len : length (t ++ cs) ≡ n + length cs =
@@ -103,7 +103,7 @@ pub sound-added : (c : Collector) (h : Head) (cs : List Component) → length (c
     → Sound c → contentRefusal c h cs ≡ 0 → Sound (added c h cs)
 sound-added c h cs l some s e =
     let t = content-taken c h cs e in
-    let v = view-joined (h .generation) (c .layout) cs (omega (arith, t .1, l)) in
+    let v = view-joined h (c .layout) cs (omega (arith, t .1, l)) in
     record {
       few = t .1;
       none = λ z. absurd (omega arith);
@@ -115,10 +115,10 @@ sound-added c h cs l some s e =
 
 -- If the collector is not complete, the layout with more components after the gathered ones is one whose first
 -- components are known to break no rule with pages outstanding.
-pub kept-joined : (c : Collector) (g : ℕ) (cs : List Component) → length (c .layout .components) ≡ 16 → Sound c
-    → c .complete ≡ false → c .layout .count + length cs ≤ 16 → RulesKnown (c .layout .count) (joined g (c .layout) cs)
-kept-joined c g cs l s e h =
-    let v = view-joined g (c .layout) cs (omega arith) in
-    let t : take (c .layout .count) (view (joined g (c .layout) cs)) ≡ gathered c =
+pub kept-joined : (c : Collector) (head : Head) (cs : List Component) → length (c .layout .components) ≡ 16 → Sound c
+    → c .layout .complete ≡ false → c .layout .count + length cs ≤ 16 → RulesKnown (c .layout .count) (joined head (c .layout) cs)
+kept-joined c head cs l s e h =
+    let v = view-joined head (c .layout) cs (omega arith) in
+    let t : take (c .layout .count) (view (joined head (c .layout) cs)) ≡ gathered c =
     ap (take (c .layout .count)) v ∙ take-at (gathered c) cs (c .layout .count) (s .whole) in
     (omega arith, h, rw (t) (rw e at (s .kept)))

@@ -27,26 +27,27 @@ numberOf (Refused n) = n
 unfoldable pub isNext : ℕ → ℕ → Head → Bool
 isNext pages generation h = eqb (h .number) pages && (eqb pages 0 || eqb (h .generation) generation)
 
--- A layout with components after its own. What is after them in the array stays.
-abbrev pub joined : ℕ → Layout → List Component → Layout
-joined g l cs =
+-- A layout with the components of a page after its own. Its generation is what the page's head says, and it is complete
+-- unless the head says that more pages follow. What is after the components in the array stays.
+abbrev pub joined : Head → Layout → List Component → Layout
+joined h l cs =
     record {
-      generation = g;
+      generation = h .generation;
       count = l .count + length cs;
       components = sets (l .components) (l .count) cs;
+      complete = not (h .more);
     }
 
 -- The collector with a page.
 abbrev pub added : Collector → Head → List Component → Collector
-added c h cs =
-    record { pages = c .pages + 1; complete = not (h .more); layout = joined (h .generation) (c .layout) cs }
+added c h cs = record { pages = c .pages + 1; layout = joined h (c .layout) cs }
 
 -- "An accepted page answers "more wanted" or "complete"", by the page's flag.
 abbrev pub accepted : ℕ → Bool → Layout → Taken
 accepted pages more l =
     record {
       answer = cond more More Complete;
-      collector = record { pages = pages; complete = not more; layout = l };
+      collector = record { pages = pages; layout = l };
     }
 
 -- The number of the refusal of a page of good form by what it says, 4 to 8, or 0. "Numbers 6 to 8 are asked once 3 to 5
@@ -61,7 +62,7 @@ contentRefusal c h cs =
 
 -- The number of the refusal of a page by a collector that keeps the rules, 2 to 8, or 0.
 unfoldable pub openRefusal : Collector → List ℕ → ℕ
-openRefusal c s = cond (c .complete) 2 (cond (pageForm s) (contentRefusal c (headOf s) (componentsOf s)) 3)
+openRefusal c s = cond (c .layout .complete) 2 (cond (pageForm s) (contentRefusal c (headOf s) (componentsOf s)) 3)
 
 -- The number of the refusal of a page, or 0: the lowest whose condition holds.
 unfoldable pub pageRefusal : Collector → List ℕ → ℕ
@@ -70,7 +71,7 @@ pageRefusal c s = cond (collectorOk c) (openRefusal c s) 1
 -- What is given back under the number of a refusal, or under 0: the collector as it was and that number; or the
 -- collector with the page, and "more wanted" or "complete" by the page's flag.
 unfoldable pub settled : ℕ → Collector → Head → List Component → Taken
-settled zero c h cs = accepted (c .pages + 1) (h .more) (joined (h .generation) (c .layout) cs)
+settled zero c h cs = accepted (c .pages + 1) (h .more) (joined h (c .layout) cs)
 settled (suc n) c h cs = record { answer = Refused (suc n); collector = c }
 
 -- What taking a page of good form gives, by what it says.

@@ -34,7 +34,7 @@ accepted-number pages false l = refl
 -- The answer means the number of the refusal, or 0.
 pub settled-number : (n : ℕ) (c : Collector) (h : Head) (cs : List Component) → numberOf (settled n c h cs .answer) ≡ n
 unfolding settled numberOf
-settled-number zero c h cs = accepted-number (c .pages + 1) (h .more) (joined (h .generation) (c .layout) cs)
+settled-number zero c h cs = accepted-number (c .pages + 1) (h .more) (joined h (c .layout) cs)
 settled-number (suc n) c h cs = refl
 
 -- What a page of good form is refused by: 4 if it is not the next,
@@ -58,15 +58,15 @@ module _ (c : Collector) (h : Head) (cs : List Component) where
 -- What a page is refused by if the collector keeps the rules: 2 if it is complete, 3 if the bytes are not a
 -- page, and else by what the page says.
 module _ (c : Collector) (s : List ℕ) where
-  pub refused-2 : c .complete ≡ true → openRefusal c s ≡ 2
+  pub refused-2 : c .layout .complete ≡ true → openRefusal c s ≡ 2
   unfolding openRefusal
   refused-2 e = rw e
 
-  pub refused-3 : c .complete ≡ false → pageForm s ≡ false → openRefusal c s ≡ 3
+  pub refused-3 : c .layout .complete ≡ false → pageForm s ≡ false → openRefusal c s ≡ 3
   unfolding openRefusal
   refused-3 e f = rw (e, f)
 
-  pub refused-content : c .complete ≡ false → pageForm s ≡ true
+  pub refused-content : c .layout .complete ≡ false → pageForm s ≡ true
       → openRefusal c s ≡ contentRefusal c (headOf s) (componentsOf s)
   unfolding openRefusal
   refused-content e f = rw (e, f)

@@ -20,7 +20,7 @@ use Rattle.collector.specs.Runs.{Next, ended, broken, next, closed, foll
 use Rattle.collector.specs.RunLaws.{Held, page-open, taken-held, new-held}
 
 -- The layout of a collector that keeps the rules and is complete is valid.
-gathered-valid : (c : Collector) → Held c → c .complete ≡ true → valid (packed (c .layout .generation) (gathered c)) ≡ true
+gathered-valid : (c : Collector) → Held c → c .layout .complete ≡ true → valid (packed (c .layout .generation) (gathered c)) ≡ true
 gathered-valid c h e =
     let g = c .layout .generation in
     let few : length (gathered c) ≤ 16 = omega (arith, h .sound .whole, h .sound .few) in
@@ -31,6 +31,7 @@ gathered-valid c h e =
     (λ z. let w = eqb-false (c .pages) 0 z in omega (arith, h .sound .whole, h .sound .within)) in
     facts-valid (packed g (gathered c))
     (record {
+      complete = refl;
       some = some;
       few = few;
       whole = ap length v;
@@ -42,7 +43,7 @@ abbrev Good : Reading → Type 0
 Good r = r .refusal ≡ 0 → valid (r .layout) ≡ true
 
 -- That holds of a reading whose collector keeps the rules and is complete,
-closed-valid : (c : Collector) (s : List ℕ) → Held c → c .complete ≡ true → Good (closed c s)
+closed-valid : (c : Collector) (s : List ℕ) → Held c → c .layout .complete ≡ true → Good (closed c s)
 closed-valid c [] h e z = gathered-valid c h e
 closed-valid c (b ∷ rest) h e z = absurd (omega arith)
 
@@ -62,14 +63,14 @@ following-valid on f c h (next p rest) z =
 -- So, for any way to cut pages from bytes, it holds of reading on from any collector that keeps the rules,
 module _ (cut : List ℕ → Next) where
   either-valid : (on : Collector → List ℕ → Reading) → ((d : Collector) (t : List ℕ) → Held d → Good (on d t))
-      → (c : Collector) (s : List ℕ) → Held c → (x : Bool) → c .complete ≡ x
+      → (c : Collector) (s : List ℕ) → Held c → (x : Bool) → c .layout .complete ≡ x
       → Good (cond x (closed c s) (following on c (cut s)))
   either-valid on f c s h true e = closed-valid c s h e
   either-valid on f c s h false e = following-valid on f c h (cut s)
 
   on-valid : (left : ℕ) (c : Collector) (s : List ℕ) → Held c → Good (readOn cut left c s)
   on-valid zero c s h = λ z. absurd (omega arith)
-  on-valid (suc left) c s h = either-valid (readOn cut left) (on-valid left) c s h (c .complete) refl
+  on-valid (suc left) c s h = either-valid (readOn cut left) (on-valid left) c s h (c .layout .complete) refl
 
   -- and of the reading of a run.
   pub run-valid : (s : List ℕ) → readRun cut s .refusal ≡ 0 → valid (readRun cut s .layout) ≡ true

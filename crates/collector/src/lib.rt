@@ -18,11 +18,10 @@ ghost use Rattle.collector.specs.Giving.{layoutOut};
 
 pub mod run;
 
-// What was gathered so far: the number of pages taken, whether the last page was among them, and the components, as the
-// first of a layout.
+// What was gathered so far: the number of pages taken, and the components, as the first of a layout. The layout is
+// complete if the last page was among them; with pages outstanding it is not, and no call takes it as a layout.
 pub struct Collector {
     pub pages: usize,
-    pub complete: bool,
     pub layout: Layout,
 }
 
@@ -64,7 +63,6 @@ pub fn new_collector() -> Collector
     let layout = layout::no_layout();
     Collector {
         pages: 0,
-        complete: false,
         layout: layout,
     }
 }
@@ -85,10 +83,10 @@ pub fn is_sound(c: Collector) -> bool
     if 16 < l.count {
         return false;
     }
-    if !counts_agree(c.pages, c.complete, l.count) {
+    if !counts_agree(c.pages, l.complete, l.count) {
         return false;
     }
-    layout::rule_broken(l, !c.complete) == 0
+    layout::rule_broken(l, !l.complete) == 0
 }
 
 // Refusal 4 does not apply: the page number is the next after the pages taken, and the generation that of page 0.
@@ -115,7 +113,6 @@ fn accept(pages: usize, more: bool, layout: Layout) -> Taken
 {
     let collector = Collector {
         pages: pages,
-        complete: !more,
         layout: layout,
     };
     if more {
@@ -130,10 +127,11 @@ fn accept(pages: usize, more: bool, layout: Layout) -> Taken
     }
 }
 
-// The layout with the components at the first n places of the bytes after its own, and another generation.
-fn with_components(l: Layout, generation: u32, s: &[u8], places: [usize; 16], n: usize) -> Layout
+// The layout with the components at the first n places of the bytes after its own. Its generation and whether it is
+// complete are what the head of the page says.
+fn with_components(l: Layout, head: Head, s: &[u8], places: [usize; 16], n: usize) -> Layout
     requires { ⌜ (l .count + n ≤ 16) × ((i : ℕ) → i < n → componentEnd (now s) (getD places i 0) ≤ length (now s)) ⌝ }
-    ensures { λ r. ⌜ r ≡ joined generation l (map (componentAt (now (s .entry))) (take n places)) ⌝ }
+    ensures { λ r. ⌜ r ≡ joined head l (map (componentAt (now (s .entry))) (take n places)) ⌝ }
 {
     let mut out = l;
     let from = l.count;
@@ -143,14 +141,15 @@ fn with_components(l: Layout, generation: u32, s: &[u8], places: [usize; 16], n:
         out.components[from + i] = page::decode::component_at(s, place);
         i += 1;
     }
-    out.generation = generation;
+    out.generation = head.generation;
     out.count = from + n;
+    out.complete = !head.more;
     out
 }
 
 // Takes a page of good form by what it says: 4 to 8 are asked. The places of its components are the first of these.
 fn take_walked(c: Collector, s: &[u8], places: [usize; 16]) -> Taken
-    requires { ⌜ (collectorOk c ≡ true) × (c .complete ≡ false) × Walked (now s) places ⌝ }
+    requires { ⌜ (collectorOk c ≡ true) × (c .layout .complete ≡ false) × Walked (now s) places ⌝ }
     ensures { λ r. ⌜ r ≡ contentIn c (headOf (now (s .entry))) (componentsOf (now (s .entry))) ⌝ }
 {
     let head = page::decode::head_of(s);
@@ -163,7 +162,7 @@ fn take_walked(c: Collector, s: &[u8], places: [usize; 16]) -> Taken
     if 16 < from + n {
         return refused(5, c);
     }
-    let next = with_components(l, head.generation, s, places, n);
+    let next = with_components(l, head, s, places, n);
     let rule = layout::rule_broken_from(next, head.more, from);
     if rule != 0 {
         return refused(rule, c);
@@ -176,7 +175,7 @@ pub fn take_next(c: Collector, page: &[u8]) -> Taken
     requires { ⌜ collectorOk c ≡ true ⌝ }
     ensures { λ r. ⌜ r ≡ openIn c (now (page .entry)) ⌝ }
 {
-    if c.complete {
+    if c.layout.complete {
         return refused(2, c);
     }
     let mut places = [0usize; 16];
@@ -211,7 +210,7 @@ fn layout_in(c: Collector) -> Layout
 pub fn layout_of(c: Collector) -> LayoutOut
     ensures { λ r. ⌜ r ≡ layoutOut c ⌝ }
 {
-    let ready = is_sound(c) & c.complete;
+    let ready = is_sound(c) & c.layout.complete;
     if !ready {
         let layout = layout::no_layout();
         return LayoutOut {

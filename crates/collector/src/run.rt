@@ -50,7 +50,7 @@ pub fn read_listed(s: &[u8]) -> Reading
 {
     let mut c = crate::new_collector();
     let mut at: usize = 0;
-    while !c.complete {
+    while !c.layout.complete {
         if s.len() <= at {
             return refused_at(1, c.pages);
         }

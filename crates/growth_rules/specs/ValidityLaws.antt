@@ -1,6 +1,6 @@
 -- A call of growth on a valid layout gives a valid layout back.
 use Prim.Native.Nat.{_+_, _≤_}
-use mathlib.Core.Path.{_≡_, ap}
+use mathlib.Core.Path.{_≡_, refl, ap}
 use mathlib.Core.List.{List, [], _∷_}
 use mathlib.Core.Bool.{true, false}
 use native.Mathlib.Omega.{arith}
@@ -78,6 +78,7 @@ changed-valid l k v t cs os e few apart =
     let whole = view-pack (l .generation + 1) cs few in
     facts-valid (packed (l .generation + 1) cs)
     record {
+      complete = refl;
       some = c .some;
       few = few;
       whole = ap length whole;

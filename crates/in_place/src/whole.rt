@@ -6,7 +6,7 @@ ghost use lib.ListN.{take};
 ghost use Rattle.layout.specs.Records.{packed};
 ghost use Rattle.in_place.specs.Places.{componentsAt, Within};
 
-// The layout of a generation and the components at the first n places; the rest of its places blank.
+// The complete layout of a generation and the components at the first n places; the rest of its places blank.
 pub fn layout_at(s: &[u8], places: &[usize; 16], n: usize, generation: u32) -> Layout
     requires { ⌜ (n ≤ 16) × Within (now s) n (now places) ⌝ }
     ensures { λ r. ⌜ r ≡ packed generation (componentsAt (now (s .entry)) (take n (now (places .entry)))) ⌝ }
@@ -21,5 +21,6 @@ pub fn layout_at(s: &[u8], places: &[usize; 16], n: usize, generation: u32) -> L
     }
     out.generation = generation;
     out.count = n;
+    out.complete = true;
     out
 }

@@ -351,12 +351,14 @@ pub valid-facts : (l : Layout) → valid l ≡ true → Valid l
 unfolding valid
 valid-facts l e =
     let n = l .count in
-    let p = conjunction-at (leb 1 n) (leb n 16 ∷ eqb (length (view l)) n ∷ eqb (ruleBroken false (view l)) 0 ∷ []) e in
+    let broken = ruleBroken false (view l) in
+    let p = conjunction-at (l .complete) (leb 1 n ∷ leb n 16 ∷ eqb (length (view l)) n ∷ eqb broken 0 ∷ []) e in
     record {
-      some = leb-true 1 n (p 0);
-      few = leb-true n 16 (p 1);
-      whole = eqb-true (length (view l)) n (p 2);
-      keeps = keeps-facts false (view l) (eqb-true (ruleBroken false (view l)) 0 (p 3));
+      complete = p 0;
+      some = leb-true 1 n (p 1);
+      few = leb-true n 16 (p 2);
+      whole = eqb-true (length (view l)) n (p 3);
+      keeps = keeps-facts false (view l) (eqb-true broken 0 (p 4));
     }
 
 -- A valid layout passes the test of validity.
@@ -364,6 +366,7 @@ pub facts-valid : (l : Layout) → Valid l → valid l ≡ true
 unfolding valid
 facts-valid l v =
     rw (
+      v .complete,
       le-leb 1 (l .count) (v .some),
       le-leb (l .count) 16 (v .few),
       eq-eqb (length (view l)) (l .count) (v .whole),

@@ -88,6 +88,7 @@ pub record Keeps (more : Bool) (cs : List Component) : Type 0 where
 
 -- The layout is valid.
 pub record Valid (l : Layout) : Type 0 where
+  pub complete : l .complete ≡ true
   pub some : 1 ≤ l .count
   pub few : l .count ≤ 16
   pub whole : length (view l) ≡ l .count

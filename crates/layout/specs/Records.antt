@@ -2,7 +2,7 @@
 -- places of an array. Places past a count mean nothing, and no rule looks at them.
 use Prim.Native.Nat.{ℕ}
 use mathlib.Core.List.{List, [], _∷_, _++_, map}
-use mathlib.Core.Bool.{Bool, false, cond}
+use mathlib.Core.Bool.{Bool, true, false, cond}
 use lib.IntN.{pos}
 use lib.ListN.{length, take, replicate}
 use lib.Seq.{sets}
@@ -90,6 +90,16 @@ abbrev pub outlineOf : List Component → Outline
 outlineOf cs =
     record { neighbours = sets (replicate 16 noNeighbour) 0 (neighboursOf cs); ids = sets (replicate 16 0) 0 (idsOf cs) }
 
--- The layout of a generation and a list of at most 16 components.
+-- The layout of a generation and a list of at most 16 components. The flag says that it is complete: no pages are
+-- outstanding.
+abbrev pub packedAs : Bool → ℕ → List Component → Layout
+packedAs complete g cs =
+    record { generation = g; count = length cs; components = packComponents cs; complete = complete }
+
+-- The complete layout of a generation and a list of at most 16 components.
 abbrev pub packed : ℕ → List Component → Layout
-packed g cs = record { generation = g; count = length cs; components = packComponents cs }
+packed g cs = packedAs true g cs
+
+-- The blank layout, with no components: nothing was read, so it is not complete.
+abbrev pub noLayout : Layout
+noLayout = packedAs false 0 []

@@ -21,11 +21,13 @@ laterRuleBroken more cs = cond (neighboursHold more (neighboursOf cs)) (cond (di
 unfoldable pub ruleBroken : Bool → List Component → ℕ
 ruleBroken more cs = cond (every (fieldTests cs)) (laterRuleBroken more cs) 6
 
--- "A layout is valid exactly if refusal 1 doesn't apply to it": it has 1 to 16 components, as many as its count says, and they
--- keep the rules with no pages outstanding.
+-- "A layout is valid exactly if refusal 1 doesn't apply to it", which is given if it "breaks the rules above, or a layout is
+-- not complete". So it is complete; it has 1 to 16 components, as many as its count says; and they keep the rules with no
+-- pages outstanding.
 unfoldable pub valid : Layout → Bool
 valid l =
-    leb 1 (l .count)
+    l .complete
+    && leb 1 (l .count)
     && leb (l .count) 16
     && eqb (length (view l)) (l .count)
     && eqb (ruleBroken false (view l)) 0

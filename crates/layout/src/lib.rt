@@ -1,10 +1,9 @@
 // The records of a layout and the rules that they keep.
 ghost use mathlib.Core.Path.{_≡_};
 ghost use mathlib.Core.Bool.{true};
-ghost use mathlib.Core.List.{[]};
 ghost use Prim.Native.Nat.{_≤_};
 ghost use lib.ListN.{take};
-ghost use Rattle.layout.specs.Records.{view, outlineOf, packed};
+ghost use Rattle.layout.specs.Records.{view, outlineOf, noLayout, packed};
 ghost use Rattle.layout.specs.Rules.{laterRuleBroken, ruleBroken, valid};
 ghost use Rattle.layout.specs.Known.{RulesKnown};
 ghost use Rattle.layout.specs.Holder.{holderOf};
@@ -42,11 +41,13 @@ pub struct Neighbour {
     pub end: u64,
 }
 
-// A layout: its components are in the first `count` places, in the order of the file.
+// A layout: its components are in the first `count` places, in the order of the file. `complete` says that these are all
+// of them: no pages are outstanding. A layout that is not complete is not valid.
 pub struct Layout {
     pub generation: u32,
     pub count: usize,
     pub components: [Component; 16],
+    pub complete: bool,
 }
 
 // What is in the unused places of an object array.
@@ -75,19 +76,20 @@ const NO_NEIGHBOUR: Neighbour = Neighbour {
     end: 0,
 };
 
-// A layout with no components: its places are blank.
+// The blank layout: it has no components and is not complete, and its places are blank.
 pub fn no_layout() -> Layout
-    ensures { λ r. ⌜ r ≡ packed 0 [] ⌝ }
+    ensures { λ r. ⌜ r ≡ noLayout ⌝ }
 {
     Layout {
         generation: 0,
         count: 0,
         components: [NO_COMPONENT; 16],
+        complete: false,
     }
 }
 
-// The layout of a generation and the first `count` of the components; the rest of its places blank. Every layout with
-// components that is given back is made here.
+// The complete layout of a generation and the first `count` of the components; the rest of its places blank. Every layout
+// with components that is given back is made here.
 pub fn pack(generation: u32, count: usize, components: [Component; 16]) -> Layout
     requires { ⌜ count ≤ 16 ⌝ }
     ensures { λ r. ⌜ r ≡ packed generation (take count components) ⌝ }
@@ -102,6 +104,7 @@ pub fn pack(generation: u32, count: usize, components: [Component; 16]) -> Layou
         generation: generation,
         count: count,
         components: places,
+        complete: true,
     }
 }
 
@@ -182,6 +185,9 @@ pub fn rule_broken(l: Layout, more: bool) -> u8
 pub fn is_valid(l: Layout) -> bool
     ensures { λ r. ⌜ r ≡ valid l ⌝ }
 {
+    if !l.complete {
+        return false;
+    }
     if l.count < 1 {
         return false;
     }

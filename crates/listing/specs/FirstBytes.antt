@@ -92,7 +92,7 @@ on-first zero m c s h = refl
 on-first (suc left) m c s h = bool-cases (leb (length s) m)
     (λ e. ap (readOn listedCut (suc left) c) (take-all m s (leb-true (length s) m e)))
     (λ e. let k : m < length s = leb-false (length s) m e in
-    ap₂ (λ (a b : Reading). cond (c .complete) a b) (closed-first c m s (omega arith))
+    ap₂ (λ (a b : Reading). cond (c .layout .complete) a b) (closed-first c m s (omega arith))
     (on-bytes left (on-first left) m c s h k))
 
 -- The listing of any bytes is that of their first m, if m is above 17 * 514.

@@ -153,9 +153,9 @@ refused-above a b n e =
     bool-cases (leb a b) (λ q. rw (q, le-ltb b a (leb-true a b q)) e) (λ q. rw (q, lt-ltb b a (leb-false a b q)))
 
 -- The number of the layout out of a collector.
-pub layout-out-number : (c : Collector) → layoutOut c .refusal ≡ cond (collectorOk c && c .complete) 0 1
+pub layout-out-number : (c : Collector) → layoutOut c .refusal ≡ cond (collectorOk c && c .layout .complete) 0 1
 unfolding layoutOut
-layout-out-number c = bool-cases (collectorOk c && c .complete) (λ e. rw e) (λ e. rw e)
+layout-out-number c = bool-cases (collectorOk c && c .layout .complete) (λ e. rw e) (λ e. rw e)
 
 -- The number of the refusal of a byte that was found back.
 pub hidden-number : (o : Object) (p : ℕ) (cs : List Component)

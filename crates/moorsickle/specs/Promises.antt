@@ -16,7 +16,7 @@ use Rattle.bytes_le.specs.Numbers.{AreBytes}
 use Rattle.layout.specs.declared.Object.{Object}
 use Rattle.layout.specs.declared.Component.{Component}
 use Rattle.layout.specs.declared.Layout.{Layout}
-use Rattle.layout.specs.Records.{noObject, neighboursOf, recordsIn, view, packed}
+use Rattle.layout.specs.Records.{noObject, neighboursOf, recordsIn, view, packed, noLayout}
 use Rattle.layout.specs.Fields.{fieldTests}
 use Rattle.layout.specs.Neighbours.{neighboursHold}
 use Rattle.layout.specs.Distinct.{sameObject, distinctHold}
@@ -97,7 +97,7 @@ pub page-in-number : (c : Collector) (s : List ℕ)
     → let all = gathered c ++ componentsOf s in
     IsLowest (pageRefusal c s) (
     1 when not (collectorOk c)
-    ∷ 2 when c .complete
+    ∷ 2 when c .layout .complete
     ∷ 3 when not (pageForm s)
     ∷ 4 when not (isNext (c .pages) (c .layout .generation) (headOf s))
     ∷ 5 when ltb 16 (c .layout .count + length (componentsOf s))
@@ -109,7 +109,7 @@ unfolding pageRefusal openRefusal contentRefusal ruleBroken
 page-in-number c s =
     let all = gathered c ++ componentsOf s in (
       refl,
-      refused-unless (collectorOk c) 1 (refused-if (c .complete) 2 (refused-unless (pageForm s) 3
+      refused-unless (collectorOk c) 1 (refused-if (c .layout .complete) 2 (refused-unless (pageForm s) 3
           (refused-unless (isNext (c .pages) (c .layout .generation) (headOf s)) 4
           (refused-above (c .layout .count + length (componentsOf s)) 16 5
           (refused-unless (every (fieldTests all)) 6
@@ -148,8 +148,8 @@ page-out-keeps = numbers.buffer-kept
 
 -- "Layout out of a collector: 1."
 pub layout-out-number : (c : Collector)
-    → IsLowest (layoutOut c .refusal) (1 when (not (collectorOk c) || not (c .complete)) ∷ [])
-layout-out-number c = (refl, numbers.layout-out-number c ∙ refused-unless-both (collectorOk c) (c .complete) 1 refl)
+    → IsLowest (layoutOut c .refusal) (1 when (not (collectorOk c) || not (c .layout .complete)) ∷ [])
+layout-out-number c = (refl, numbers.layout-out-number c ∙ refused-unless-both (collectorOk c) (c .layout .complete) 1 refl)
 
 -- "Lookup: 1, 10, 11."
 pub lookup-number : (l : Layout) (b : ℕ)
@@ -231,7 +231,7 @@ pub written-read-back : (l : Layout) → valid l ≡ true → InMemory l
     → readPages newCollector (writtenPages l)
     ≡ record {
       answer = Complete;
-      collector = record { pages = length (writtenPages l); complete = true; layout = blanked l };
+      collector = record { pages = length (writtenPages l); layout = blanked l };
     }
 written-read-back = writing.written-read-back
 
@@ -280,13 +280,13 @@ pub any-paging : (g : ℕ) (ps : List (List ℕ)) → ArePages g 0 ps → somePa
     → readPages newCollector ps
     ≡ record {
       answer = Complete;
-      collector = record { pages = length ps; complete = true; layout = packed g (componentsIn ps) };
+      collector = record { pages = length ps; layout = packed g (componentsIn ps) };
     }
 any-paging = anyhow.any-paging
 
 -- "Only a complete collector gives a layout": one with pages outstanding gives none.
-pub outstanding-none : (c : Collector) → c .complete ≡ false
-    → layoutOut c ≡ record { refusal = 1; layout = packed 0 [] }
+pub outstanding-none : (c : Collector) → c .layout .complete ≡ false
+    → layoutOut c ≡ record { refusal = 1; layout = noLayout }
 outstanding-none = collecting.outstanding-none
 
 -- 3. Homes. "A byte has a home exactly when it lies in an init component";

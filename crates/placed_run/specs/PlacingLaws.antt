@@ -91,7 +91,7 @@ module _ (s : List ℕ) where
     pub taken : p .refusal ≡ 0
     pub pages : c .pages ≡ p .pages
     pub generation : c .layout .generation ≡ p .generation
-    pub complete : c .complete ≡ not (p .more)
+    pub complete : c .layout .complete ≡ not (p .more)
     pub components : gathered c ≡ componentsAt s (p .places)
 
   -- A reading and a reading in place that ended alike.
@@ -105,7 +105,7 @@ module _ (s : List ℕ) where
 
     -- What was gathered is distinct.
     distinct-old : distinctHold (componentsAt s (p .places)) ≡ true
-    distinct-old = rw (← m .components) (rules-hold (not (c .complete)) (gathered c) (m .held .sound .kept) .2)
+    distinct-old = rw (← m .components) (rules-hold (not (c .layout .complete)) (gathered c) (m .held .sound .kept) .2)
 
     count-is : c .layout .count ≡ length (p .places)
     count-is =
@@ -115,7 +115,7 @@ module _ (s : List ℕ) where
     -- No page is wanted.
     end-closed : p .more ≡ false → EndAlike (readFrom hostCut c rest) p
     end-closed e =
-        let done : c .complete ≡ true = m .complete ∙ rw e in
+        let done : c .layout .complete ≡ true = m .complete ∙ rw e in
         let n = length-drop (p .at) s in
         let r = read-closed c (m .held) hostCut rest done in
         let number = placed-distinct p distinct-old in
@@ -161,7 +161,7 @@ module _ (s : List ℕ) where
       has-some : 0 < length new
       has-some = omega (arith, length-components rest, some-components (min 512 (length rest)) rest form)
 
-      outstanding : c .complete ≡ false
+      outstanding : c .layout .complete ≡ false
       outstanding = m .complete ∙ rw more
 
       known : ruleBroken true (gathered c) ≡ 0
@@ -252,10 +252,10 @@ module _ (s : List ℕ) where
               taken = refl;
               pages = ap (λ (d : Collector). d .pages) taken-as ∙ ap (λ (n : ℕ). n + 1) (m .pages);
               generation = ap (λ (d : Collector). d .layout .generation) taken-as;
-              complete = ap (λ (d : Collector). d .complete) taken-as;
+              complete = ap (λ (d : Collector). d .layout .complete) taken-as;
               components =
                   ap (λ (d : Collector). gathered d) taken-as
-                  ∙ view-joined (headOf rest .generation) (c .layout) new room
+                  ∙ view-joined (headOf rest) (c .layout) new room
                   ∙ sym added-components;
             }
 
@@ -312,7 +312,7 @@ module _ (s : List ℕ) where
       (λ e.
       let goes : goesOn p ≡ true = rw (e, m .taken) in
       let next : placedOn left s (placedNext s p) ≡ placedOn (suc left) s p = rw goes in
-      let out : c .complete ≡ false = m .complete ∙ rw e in
+      let out : c .layout .complete ≡ false = m .complete ∙ rw e in
       subst (EndAlike r) next
       (bool-cases (eqb (length t) 0)
       (λ f. let z : length t ≡ 0 = eqb-true (length t) 0 f in

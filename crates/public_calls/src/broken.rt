@@ -1,6 +1,7 @@
-// A layout that breaks the rules: every call that takes a layout refuses it by 1.
+// A layout that breaks the rules, or is not complete: every call that takes a layout refuses it by 1.
 use crate::growing;
 use crate::mapped;
+use crate::reading;
 use crate::tables;
 use crate::text;
 use crate::writing;
@@ -20,7 +21,8 @@ fn layout(l: Layout) {
     growing::refused(l, 16777216, tables::two(0, 1000, 20, 1, 1000, 30));
 }
 
-// Layout B with id 0 in its first component, and with more components than there are places.
+// Layout B with id 0 in its first component, and with more components than there are places; and what a collector holds
+// of it after page 0 of four.
 pub(crate) fn layouts(b: Layout) {
     let mut l = b;
     l.components[0].id = 0;
@@ -30,4 +32,6 @@ pub(crate) fn layouts(b: Layout) {
     m.count = 17;
     text::put(b"B with 17 components");
     layout(m);
+    text::put(b"B with three pages outstanding");
+    layout(reading::outstanding());
 }

@@ -53,6 +53,14 @@ pub(crate) fn gathered(page: &[u8]) -> Layout {
     out.layout
 }
 
+// What a collector holds of layout B after page 0, with three pages outstanding. Its component alone keeps every rule.
+pub(crate) fn outstanding() -> Layout {
+    let page = pages::B_0;
+    let taken = lending::take(moorsickle::new_collector(), &page);
+    let c = taken.collector;
+    c.layout
+}
+
 // Document 01's page of 72 bytes. Gives its layout.
 pub(crate) fn one_page() -> Layout {
     let page = pages::ONE;
@@ -126,7 +134,7 @@ fn broken(c: Collector) {
 // Collectors that break the rules of a collector.
 pub(crate) fn broken_collectors() {
     let mut c = moorsickle::new_collector();
-    c.complete = true;
+    c.layout.complete = true;
     text::put(b"a collector that is complete with no pages");
     broken(c);
     let mut d = moorsickle::new_collector();

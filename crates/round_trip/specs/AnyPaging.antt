@@ -15,7 +15,7 @@ use Rattle.lists.specs.Bools.{clash}
 use Rattle.lists.specs.Slices.{sets-append}
 use Rattle.layout.specs.declared.Component.{Component}
 use Rattle.layout.specs.declared.Layout.{Layout}
-use Rattle.layout.specs.Records.{noComponent, packComponents, packed}
+use Rattle.layout.specs.Records.{noComponent, packComponents, packedAs, packed}
 use Rattle.layout.specs.RecordLaws.{view-pack}
 use Rattle.layout.specs.Rules.{ruleBroken}
 use Rattle.layout.specs.Facts.{Keeps}
@@ -35,16 +35,22 @@ use Rattle.round_trip.specs.Pages.{readPages}
 use Rattle.round_trip.specs.CompleteReading.{completed, componentsIn, somePages, ArePages, IsPage, some-in-page}
 
 -- Components after those of a layout whose unused places are blank give such a layout again.
-joined-packed : (g old : ℕ) (xs ys : List Component) → joined g (packed old xs) ys ≡ packed g (xs ++ ys)
+joined-packed : (h : Head) (old : ℕ) (xs ys : List Component)
+    → joined h (packedAs false old xs) ys ≡ packedAs (not (h .more)) (h .generation) (xs ++ ys)
 unfolding packComponents
-joined-packed g old xs ys =
+joined-packed h old xs ys =
     let stored : sets (replicate 16 noComponent) 0 (xs ++ ys) ≡ sets (packComponents xs) (length xs) ys =
     sets-append (replicate 16 noComponent) 0 xs ys ∙ rw zero-add in
-    λ i. record { generation = g; count = sym (length-append xs ys) i; components = sym stored i }
+    λ i. record {
+      generation = h .generation;
+      count = sym (length-append xs ys) i;
+      components = sym stored i;
+      complete = not (h .more);
+    }
 
 -- A collector that has taken k pages with these components and waits for more.
 abbrev holding : ℕ → ℕ → List Component → Collector
-holding k g cs = record { pages = k; complete = false; layout = packed g cs }
+holding k g cs = record { pages = k; layout = packedAs false g cs }
 
 -- One page is taken by a collector that holds the components xs: the page has its form, its number is the next, and
 -- the rules hold of xs and its components together, with pages outstanding if its head says so.
@@ -52,7 +58,7 @@ page-taken : (k old : ℕ) (xs : List Component) (p : List ℕ) → Sound (holdi
     → isNext k old (headOf p) ≡ true → length xs + length (componentsOf p) ≤ 16
     → ruleBroken (headOf p .more) (xs ++ componentsOf p) ≡ 0
     → pageIn (holding k old xs) p
-    ≡ accepted (k + 1) (headOf p .more) (packed (headOf p .generation) (xs ++ componentsOf p))
+    ≡ accepted (k + 1) (headOf p .more) (packedAs (not (headOf p .more)) (headOf p .generation) (xs ++ componentsOf p))
 unfolding settled
 page-taken k old xs p sound form next few rules =
     let c = holding k old xs in
@@ -62,7 +68,7 @@ page-taken k old xs p sound form next few rules =
     let content : contentRefusal c h ys ≡ 0 = refused-rule c h ys next few ∙ rw held rules in
     let none : pageRefusal c p ≡ 0 =
     refused-open c p (facts-sound c sound) ∙ refused-content c p refl form ∙ content in
-    rw (none, joined-packed (h .generation) old xs ys)
+    rw (none, joined-packed h old xs ys)
 
 -- Refusal 4 does not apply: the page has the number that the collector waits for, and after page 0 its generation.
 next-number : (k old : ℕ) (h : Head) → h .number ≡ k → (0 < k → h .generation ≡ old) → isNext k old h ≡ true
@@ -74,7 +80,7 @@ next-number (suc k) old h e f =
 -- A page that is taken is followed by the next.
 read-next : (c : Collector) (p : List ℕ) (ps : List (List ℕ)) (n : ℕ) (more : Bool) (l : Layout)
     → pageIn c p ≡ accepted n more l
-    → readPages c (p ∷ ps) ≡ readPages (record { pages = n; complete = not more; layout = l }) ps
+    → readPages c (p ∷ ps) ≡ readPages (record { pages = n; layout = l }) ps
 unfolding numberOf
 read-next c p ps n true l e = rw e
 read-next c p ps n false l e = rw e
@@ -100,7 +106,7 @@ page-then : (g k old : ℕ) (xs : List Component) (p : List ℕ) (more : Bool) �
     → Sound (holding k old xs) → (0 < k → g ≡ old) → length (xs ++ componentsOf p) ≤ 16
     → Keeps more (xs ++ componentsOf p) → (ps : List (List ℕ))
     → readPages (holding k old xs) (p ∷ ps)
-    ≡ readPages (accepted (k + 1) more (packed g (xs ++ componentsOf p)) .collector) ps
+    ≡ readPages (record { pages = k + 1; layout = packedAs (not more) g (xs ++ componentsOf p) }) ps
 page-then g k old xs p more a sound same few keeps ps =
     let ys = componentsOf p in
     let h = headOf p in
@@ -108,7 +114,7 @@ page-then g k old xs p more a sound same few keeps ps =
     let next = next-number k old h (a .number) (λ z. a .generation ∙ same z) in
     let room = length-append xs ys in
     let t = page-taken k old xs p sound (a .form) next (omega arith) rules in
-    read-next (holding k old xs) p ps (k + 1) (h .more) (packed (h .generation) (xs ++ ys)) t
+    read-next (holding k old xs) p ps (k + 1) (h .more) (packedAs (not (h .more)) (h .generation) (xs ++ ys)) t
     ∙ rw (a .follows, a .generation)
 
 -- The pages from page k on are taken by a collector that waits for page k, and the last of them completes it. The
@@ -117,7 +123,7 @@ pages-then : (g : ℕ) (ps : List (List ℕ)) (k old : ℕ) (xs : List Component
     → Sound (holding k old xs) → k ≤ length xs → (0 < k → g ≡ old) → length (xs ++ componentsIn ps) ≤ 16
     → Keeps false (xs ++ componentsIn ps)
     → readPages (holding k old xs) ps
-    ≡ completed (record { pages = k + length ps; complete = true; layout = packed g (xs ++ componentsIn ps) })
+    ≡ completed (record { pages = k + length ps; layout = packed g (xs ++ componentsIn ps) })
 pages-then g [] k old xs a some sound h same few keeps = clash some refl
 pages-then g (p ∷ []) k old xs a some sound h same few keeps =
     let e : componentsOf p ++ [] ≡ componentsOf p = append-nil (componentsOf p) in
@@ -149,7 +155,7 @@ pub any-paging : (g : ℕ) (ps : List (List ℕ)) → ArePages g 0 ps → somePa
     → readPages newCollector ps
     ≡ record {
       answer = Complete;
-      collector = record { pages = length ps; complete = true; layout = packed g (componentsIn ps) };
+      collector = record { pages = length ps; layout = packed g (componentsIn ps) };
     }
 any-paging g ps a some few keeps =
     pages-then g ps 0 0 [] a some (new-held .sound) (omega arith) (λ z. absurd (omega arith)) few keeps ∙ rw zero-add

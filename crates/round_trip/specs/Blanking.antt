@@ -68,6 +68,7 @@ blanked-valid l e =
     let n : length (map trimmed (view l)) ≡ l .count = length-map (view l) trimmed ∙ v .whole in
     facts-valid (blanked l)
     record {
+      complete = refl;
       some = omega (arith, v .some);
       few = omega (arith, v .few);
       whole = ap length (view-blanked l e);

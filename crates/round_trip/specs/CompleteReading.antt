@@ -68,16 +68,16 @@ pub record WholeReading (c₀ c : Collector) (ps : List (List ℕ)) : Type 0 whe
   -- Their components are after those gathered before.
   pub components : gathered c ≡ gathered c₀ ++ componentsIn ps
   -- There are pages exactly if the collector was not complete.
-  pub wanted : somePages ps ≡ not (c₀ .complete)
+  pub wanted : somePages ps ≡ not (c₀ .layout .complete)
   -- Once page 0 is taken, the generation stays.
   pub same : 1 ≤ c₀ .pages → c .layout .generation ≡ c₀ .layout .generation
   -- At the end the collector is complete, and refusal 1 does not apply to it.
-  pub complete : c .complete ≡ true
+  pub complete : c .layout .complete ≡ true
   pub sound : Sound c
 
 -- What a page tells that is taken: the collector was not complete, the bytes are a page, and 4 to 8 do not apply.
 record PageTaken (c : Collector) (p : List ℕ) : Type 0 where
-  unfinished : c .complete ≡ false
+  unfinished : c .layout .complete ≡ false
   form : pageForm p ≡ true
   content : contentRefusal c (headOf p) (componentsOf p) ≡ 0
 
@@ -85,7 +85,7 @@ page-taken : (c : Collector) (p : List ℕ) → pageRefusal c p ≡ 0 → PageTa
 page-taken c p e =
     bool-cases (collectorOk c)
     (λ x. let o : openRefusal c p ≡ 0 = sym (refused-open c p x) ∙ e in
-    bool-cases (c .complete)
+    bool-cases (c .layout .complete)
     (λ y. let z : 2 ≡ 0 = sym (refused-2 c p y) ∙ o in absurd (omega arith))
     (λ y. bool-cases (pageForm p)
     (λ f. record { unfinished = y; form = f; content = sym (refused-content c p y f) ∙ o })
@@ -132,7 +132,7 @@ pub reading : (c₀ c : Collector) (ps : List (List ℕ)) → length (c₀ .layo
     → readPages c₀ ps ≡ completed c → WholeReading c₀ c ps
 reading c₀ c [] len s e =
     let x : c₀ ≡ c = ap (λ (t : Taken). t .collector) e in
-    let y : c₀ .complete ≡ true = answered-complete (c₀ .complete) (sym (ap (λ (t : Taken). t .answer) e)) in
+    let y : c₀ .layout .complete ≡ true = answered-complete (c₀ .layout .complete) (sym (ap (λ (t : Taken). t .answer) e)) in
     let r : WholeReading c₀ c₀ [] =
     record {
       pages = tt;
@@ -155,7 +155,7 @@ reading c₀ c (p ∷ ps) len s e =
     let r = reading (added c₀ h cs) c ps room sound (f .1) in
     let g : c .layout .generation ≡ h .generation = r .same (omega arith) in
     let v : gathered (added c₀ h cs) ≡ gathered c₀ ++ cs =
-    view-joined (h .generation) (c₀ .layout) cs (omega (arith, w .1, len)) in
+    view-joined h (c₀ .layout) cs (omega (arith, w .1, len)) in
     let m : h .more ≡ somePages ps =
     bool-cases (h .more) (λ y. y ∙ sym (r .wanted ∙ rw y)) (λ y. y ∙ sym (r .wanted ∙ rw y)) in
     record {
@@ -237,6 +237,7 @@ module _ (ps : List (List ℕ)) (c : Collector)
       rw reading-out
       (facts-valid (packed (c .layout .generation) (gathered c))
       (record {
+        complete = refl;
         some = omega (arith, pages-gathered);
         few = gathered-few;
         whole = ap length v;

@@ -17,7 +17,7 @@ use Rattle.paging.specs.Paging.{isSome, fromPage, writtenPage}
 
 -- Pages taken one after another, up to the first that is refused.
 abbrev pub readPages : Collector → List (List ℕ) → Taken
-readPages c [] = record { answer = cond (c .complete) Complete More; collector = c }
+readPages c [] = record { answer = cond (c .layout .complete) Complete More; collector = c }
 readPages c (p ∷ ps) =
     cond (eqb (numberOf (pageIn c p .answer)) 0) (readPages (pageIn c p .collector) ps) (pageIn c p)
 

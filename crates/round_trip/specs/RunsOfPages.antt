@@ -109,7 +109,7 @@ pub record AllTaken (cut : List ℕ → Next) (join : List (List ℕ) → List �
   -- It has taken as many pages more as there are in ps.
   pub pages : c .pages ≡ c₀ .pages + length ps
   -- The answer says whether it is complete.
-  pub answer : a ≡ cond (c .complete) Complete More
+  pub answer : a ≡ cond (c .layout .complete) Complete More
   -- A run that begins with the pages is read from c₀ on as the bytes after them are read from c on.
   pub reads : (t : List ℕ) → readFrom cut c₀ (join ps ++ t) ≡ readFrom cut c t
 
@@ -119,7 +119,7 @@ pub all-taken : {cut : List ℕ → Next} {join : List (List ℕ) → List ℕ} 
     → readPages c₀ ps ≡ record { answer = a; collector = c } → AllTaken cut join c₀ c a ps
 all-taken {cut} {join} w c₀ c a [] h n e =
     let same : c₀ ≡ c = ap (λ (r : Taken). r .collector) e in
-    let said : cond (c₀ .complete) Complete More ≡ a = ap (λ (r : Taken). r .answer) e in
+    let said : cond (c₀ .layout .complete) Complete More ≡ a = ap (λ (r : Taken). r .answer) e in
     let k : AllTaken cut join c₀ c₀ a [] =
     record { held = h; pages = omega arith; answer = sym said; reads = λ t. rw (w .empty) } in
     subst (λ (d : Collector). AllTaken cut join c₀ d a []) same k
@@ -167,9 +167,9 @@ module _ {cut : List ℕ → Next} {join : List (List ℕ) → List ℕ} (w : Ta
 
   -- if the last of them completes the collector,
   module _ (e : readPages newCollector ps ≡ record { answer = Complete; collector = c }) where
-    complete : c .complete ≡ true
+    complete : c .layout .complete ≡ true
     unfolding numberOf
-    complete = answered-complete (c .complete) (new-taken Complete refl e .answer)
+    complete = answered-complete (c .layout .complete) (new-taken Complete refl e .answer)
 
     read-closes : (t : List ℕ) → readRun cut (join ps ++ t) ≡ closed c t
     unfolding numberOf
@@ -197,7 +197,7 @@ module _ {cut : List ℕ → Next} {join : List (List ℕ) → List ℕ} (w : Ta
       let r = new-taken More refl e in
       ap (readRun cut) (sym (append-nil (join ps)))
       ∙ read-on More refl e []
-      ∙ read-ended c (r .held) cut [] (answered-more (c .complete) (r .answer)) (w .none)
+      ∙ read-ended c (r .held) cut [] (answered-more (c .layout .complete) (r .answer)) (w .none)
       ∙ ap (refusedAt 1) (pages-taken More refl e)
 
 -- A complete run is read as its pages are. The pages `ps` are taken one after another by a new collector, and the last
@@ -241,7 +241,7 @@ listed-outstanding = read-outstanding listed-apart
 
 -- The collector that has taken all pages of a valid layout gives that layout, its unused places blank.
 layout-back : (l : Layout) → valid l ≡ true → InMemory l
-    → layoutOut (record { pages = length (writtenPages l); complete = true; layout = blanked l }) .layout ≡ blanked l
+    → layoutOut (record { pages = length (writtenPages l); layout = blanked l }) .layout ≡ blanked l
 layout-back l e m =
     rw (written-read-back l e m) at (ap (λ (o : LayoutOut). o .layout) (written-given-back l e m))
 

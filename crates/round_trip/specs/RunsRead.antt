@@ -55,7 +55,7 @@ pub record PutsTogether (cut : List ℕ → Next) (join : List (List ℕ) → Li
 -- For any way to cut pages from bytes and to put them into one run:
 module _ {cut : List ℕ → Next} {join : List (List ℕ) → List ℕ} (w : PutsTogether cut join) where
   -- if the collector is complete and no byte is left, the reading is that of no pages;
-  none-left : (c : Collector) (s : List ℕ) → c .complete ≡ true → closed c s .refusal ≡ 0
+  none-left : (c : Collector) (s : List ℕ) → c .layout .complete ≡ true → closed c s .refusal ≡ 0
       → FromPages join c s (closed c s)
   none-left c [] e z =
       record { pages = []; each = tt; bytes = sym (w .empty); last = c; taken = rw e; given = refl }
@@ -87,7 +87,7 @@ module _ {cut : List ℕ → Next} {join : List (List ℕ) → List ℕ} (w : Pu
   pages-by : (left : ℕ)
       → ((d : Collector) (t : List ℕ) → AreBytes t → readOn cut left d t .refusal ≡ 0
       → FromPages join d t (readOn cut left d t))
-      → (c : Collector) (s : List ℕ) (x : Bool) → AreBytes s → c .complete ≡ x
+      → (c : Collector) (s : List ℕ) (x : Bool) → AreBytes s → c .layout .complete ≡ x
       → cond x (closed c s) (following (readOn cut left) c (cut s)) .refusal ≡ 0
       → FromPages join c s (cond x (closed c s) (following (readOn cut left) c (cut s)))
   pages-by left on c s true b e z = none-left c s e z
@@ -97,7 +97,7 @@ module _ {cut : List ℕ → Next} {join : List (List ℕ) → List ℕ} (w : Pu
   pages-read : (left : ℕ) (c : Collector) (s : List ℕ) → AreBytes s → readOn cut left c s .refusal ≡ 0
       → FromPages join c s (readOn cut left c s)
   pages-read zero c s b z = absurd (omega arith)
-  pages-read (suc left) c s b z = pages-by left (pages-read left) c s (c .complete) b refl z
+  pages-read (suc left) c s b z = pages-by left (pages-read left) c s (c .layout .complete) b refl z
 
   -- and so is a run.
   pub run-pages : (s : List ℕ) → AreBytes s → readRun cut s .refusal ≡ 0

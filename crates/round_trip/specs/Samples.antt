@@ -29,7 +29,7 @@ abbrev complete : ℕ → List Component → Taken
 complete generation cs =
     record {
       answer = Complete;
-      collector = record { pages = 1; complete = true; layout = packed generation cs };
+      collector = record { pages = 1; layout = packed generation cs };
     }
 
 -- What the readings and writings below compute with.

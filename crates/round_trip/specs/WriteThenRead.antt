@@ -131,7 +131,7 @@ pub written-read-back : (l : Layout) → valid l ≡ true → InMemory l
     → readPages newCollector (writtenPages l)
     ≡ record {
       answer = Complete;
-      collector = record { pages = length (writtenPages l); complete = true; layout = blanked l };
+      collector = record { pages = length (writtenPages l); layout = blanked l };
     }
 unfolding writtenPages
 written-read-back l e m =

@@ -8,7 +8,7 @@ use lib.ListN.{length, replicate}
 use Rattle.stripe.specs.Stripe.{unitOf, stripeOf, objectByte, fileByte}
 use Rattle.layout.specs.declared.Component.{Component}
 use Rattle.layout.specs.declared.Layout.{Layout}
-use Rattle.layout.specs.Records.{noObject, view, packObjects, packComponents, packed}
+use Rattle.layout.specs.Records.{noObject, view, packObjects, packComponents, packed, noLayout}
 use Rattle.layout.specs.Fields.{nonzeroMultiple, extensionOk, stripedOk, kindOk}
 use Rattle.layout.specs.Fields.{isMinusOne, isTarget, firstTargetOk, fieldsOk}
 use Rattle.layout.specs.Neighbours.{neighboursHold}
@@ -95,7 +95,7 @@ repliesFrom l (next a ∷ rows) = replyOf l a ∷ repliesFrom (layoutAfter l a) 
 
 -- The answers to the rows of a table, of which the first names its layout.
 abbrev pub replies : List Row → List Reply
-replies rows = repliesFrom (packed 0 []) rows
+replies rows = repliesFrom noLayout rows
 
 -- A call of growth is accepted: does the offset now have a home, did the layout change, and the generation, the components and
 -- the table afterwards.

@@ -28,7 +28,7 @@ returns-3 c =
     let s = c .before .before .before .before .before .before .before in
     let l = s .args .c .layout in
     let b = c .before .before .before in
-    let h : length (l .components) ≡ 16 = unmapped (l .components) _ (s .good .0 .1 .1 .1 .1 .0 .1 .1 .1 .1 .0 .1 .0 .1) in
+    let h : length (l .components) ≡ 16 = unmapped (l .components) _ (s .good .0 .1 .1 .1 .0 .1 .1 .1 .1 .0 .1 .0 .1) in
     let n : length (gathered (s .args .c)) ≡ l .count = length-take-le (l .count) (l .components) (omega arith) in
     rw (
       le-leb (l .count) 16 (omega arith),

@@ -13,14 +13,14 @@ use Rattle.collector.proofs.layout_of.Tie as tie
 
 -- The test is the definition's.
 ready : (c : tie.After-is-sound)
-    → (c .is-sound .result && c .before .args .c .complete) ≡ (collectorOk (c .before .args .c) && c .before .args .c .complete)
-ready c = ap (λ (b : Bool). b && c .before .args .c .complete) (c .is-sound .ensures)
+    → (c .is-sound .result && c .before .args .c .layout .complete) ≡ (collectorOk (c .before .args .c) && c .before .args .c .layout .complete)
+ready c = ap (λ (b : Bool). b && c .before .args .c .layout .complete) (c .is-sound .ensures)
 
 returns : tie.Need-returns
 unfolding layoutOut
 returns c =
     let b = c .before .before .before in
-    let x = b .is-sound .result && b .before .args .c .complete in
+    let x = b .is-sound .result && b .before .args .c .layout .complete in
     rw (sym (ready b) ∙ not-true x (c .before .if1 .taken))
     (ap (λ (l : Layout). record { refusal = 1; layout = l }) (c .no-layout .ensures))
 
@@ -28,14 +28,14 @@ layout-in-requires : tie.Need-layout-in-requires
 layout-in-requires c κs =
     let b = c .before .before in
     let a = b .before .args .c in
-    let x = b .is-sound .result && a .complete in
-    sound-facts a (both-true (collectorOk a) (a .complete) (sym (ready b) ∙ not-false x (c .if1 .left)) .0) .few
+    let x = b .is-sound .result && a .layout .complete in
+    sound-facts a (both-true (collectorOk a) (a .layout .complete) (sym (ready b) ∙ not-false x (c .if1 .left)) .0) .few
 
 returns-2 : tie.Need-returns-2
 unfolding layoutOut
 returns-2 c =
     let b = c .before .before .before in
-    let x = b .is-sound .result && b .before .args .c .complete in
+    let x = b .is-sound .result && b .before .args .c .layout .complete in
     rw (sym (ready b) ∙ not-false x (c .before .if1 .left))
     (ap (λ (l : Layout). record { refusal = 0; layout = l }) (c .layout-in .ensures))
 

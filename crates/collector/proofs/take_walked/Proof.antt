@@ -45,7 +45,7 @@ next-page c = c .before .before
 -- The layout that was built.
 built : (c : tie.After-with-components) → (let a = start (next-page c) .args in
     let s = now (a .s) in
-    c .with-components .result ≡ joined (headOf s .generation) (a .c .layout) (componentsOf s))
+    c .with-components .result ≡ joined (headOf s) (a .c .layout) (componentsOf s))
 built c =
     let h = decoded (next-page c) in
     let s = start (next-page c) in
@@ -61,9 +61,9 @@ kept c =
     let l = s .args .c .layout in
     let cs = componentsOf (now (s .args .s)) in
     let n = count-is (now (s .args .s)) (h .head-of .result) (h .head-of .ensures) in
-    let k : length (l .components) ≡ 16 = unmapped (l .components) _ (s .good .0 .1 .1 .1 .1 .0 .1 .1 .1 .1 .0 .1 .0 .1) in
+    let k : length (l .components) ≡ 16 = unmapped (l .components) _ (s .good .0 .1 .1 .1 .0 .1 .1 .1 .1 .0 .1 .0 .1) in
     subst (RulesKnown (l .count)) (sym (built c))
-    (kept-joined (s .args .c) (headOf (now (s .args .s)) .generation) cs k
+    (kept-joined (s .args .c) (headOf (now (s .args .s))) cs k
     (sound-facts (s .args .c) (s .pre .0)) (s .pre .1) (omega arith))
 
 -- The number that is given is that of the rule which the components break, or 0.
@@ -79,9 +79,9 @@ number c =
     let l = a .c .layout in
     let cs = componentsOf p in
     let n = count-is p (h .head-of .result) (h .head-of .ensures) in
-    let k : length (l .components) ≡ 16 = unmapped (l .components) _ (s .good .0 .1 .1 .1 .1 .0 .1 .1 .1 .1 .0 .1 .0 .1) in
+    let k : length (l .components) ≡ 16 = unmapped (l .components) _ (s .good .0 .1 .1 .1 .0 .1 .1 .1 .1 .0 .1 .0 .1) in
     let v : view (b .with-components .result) ≡ gathered (a .c) ++ cs =
-    ap view (built b) ∙ view-joined (headOf p .generation) l cs (omega arith) in
+    ap view (built b) ∙ view-joined (headOf p) l cs (omega arith) in
     let m : h .head-of .result .more ≡ headOf p .more = ap (λ (x : Head). x .more) (h .head-of .ensures) in
     let r : c .rule-broken-from .result ≡ ruleBroken (h .head-of .result .more) (view (b .with-components .result)) =
     c .rule-broken-from .ensures in

@@ -2,6 +2,7 @@
 use Prim.Native.Nat.{_+_, _≤_, _-_}
 use mathlib.Core.Path.{_≡_, sym, _∙_}
 use mathlib.Core.List.{map}
+use mathlib.Core.Bool.{not}
 use native.Mathlib.Omega.{arith}
 use native.Mathlib.Nat.{add-zero}
 use denote.Ref.{now}
@@ -14,13 +15,13 @@ use Rattle.collector.proofs.with_components.Statement.{statement}
 use Rattle.collector.proofs.with_components.Tie as tie
 
 abbrev Inv-loop : tie.InvT-loop
-Inv-loop generation s n places out₀ from i₀ out i =
+Inv-loop head s n places out₀ from i₀ out i =
     (i ≤ n)
     × (sets (out₀ .components) from (map (componentAt s) (take n places)) ≡ sets (out .components) (from + i)
     (map (componentAt s) (slice i n places)))
 
 abbrev μ-loop : tie.MeasureT-loop
-μ-loop generation s n places out₀ from i₀ out i = n - i
+μ-loop head s n places out₀ from i₀ out i = n - i
 
 component-at-requires : tie.Need-component-at-requires Inv-loop μ-loop
 component-at-requires c κs = c .before .before .before .pre .1 (c .before .loop .i) (c .loop-test .taken)
@@ -39,14 +40,16 @@ loop-again c =
 
 returns : tie.Need-returns Inv-loop μ-loop
 returns c =
-    let p = c .before in
+    let t = c .before in
+    let p = t .before in
     let a = p .before .before .args in
     let f = componentAt (now (a .s)) in
+    let h : length (a .t4) ≡ 16 = p .before .before .good .1 .1 .1 .0 .1 .0 .1 in
     let n : a .l .count + a .n ≡ a .l .count + length (map f (take (a .n) (a .t4))) =
     rw (length-map, length-take-le (a .n) (a .t4) (omega arith)) in
     let e : p .loop .out .components ≡ sets (a .l .components) (a .l .count) (map f (take (a .n) (a .t4))) =
-    sym (p .loop .inv .1 ∙ rw (slice-done (a .t4) (a .n) (p .loop .i) (c .loop-test .left))) in
-    λ i. record { generation = a .generation; count = n i; components = e i }
+    sym (p .loop .inv .1 ∙ rw (slice-done (a .t4) (a .n) (p .loop .i) (t .loop-test .left))) in
+    λ i. record { generation = a .head .generation; count = n i; components = e i; complete = not (a .head .more) }
 
 pub with-components-spec : {M : Type 1} → statement M
 with-components-spec =

@@ -1,6 +1,7 @@
 -- `layout::pack` meets its contract: what all stores give is what the stores from i on give to the places as they are.
 use Prim.Native.Nat.{_≤_, _-_}
 use mathlib.Core.Path.{_≡_, refl, sym, _∙_}
+use mathlib.Core.Bool.{true}
 use native.Mathlib.Omega.{arith}
 use native.Mathlib.Numerals.{add-one}
 use lib.ListN.{length, take}
@@ -34,7 +35,7 @@ returns c =
     let e = slice-done (a .t3) (a .count) (p .loop .i) (c .loop-test .left) in
     let n : a .count ≡ length (take (a .count) (a .t3)) = sym (length-take-le (a .count) (a .t3) (omega arith)) in
     let x : p .loop .places ≡ packComponents (take (a .count) (a .t3)) = sym (p .loop .inv .1 ∙ rw e) in
-    λ i. record { generation = a .generation; count = n i; components = x i }
+    λ i. record { generation = a .generation; count = n i; components = x i; complete = true }
 
 pub pack-spec : {M : Type 1} → statement M
 pack-spec =

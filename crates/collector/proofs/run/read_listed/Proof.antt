@@ -52,8 +52,8 @@ gives l e = sym (l .loop .inv .2 ∙ e)
 abbrev turn : tie.Then1 Inv-loop μ-loop → tie.At-loop Inv-loop μ-loop
 turn c = c .before .before
 
-wanted : (c : tie.Then1 Inv-loop μ-loop) → turn c .loop .c .complete ≡ false
-wanted c = not-true (turn c .loop .c .complete) (c .if1 .taken)
+wanted : (c : tie.Then1 Inv-loop μ-loop) → turn c .loop .c .layout .complete ≡ false
+wanted c = not-true (turn c .loop .c .layout .complete) (c .if1 .taken)
 
 -- No whole page comes next.
 no-page : (c : tie.Then1 Inv-loop μ-loop) → listedCut (rest (turn c)) ≡ broken
@@ -180,7 +180,7 @@ closes : (c : tie.Else1 Inv-loop μ-loop) → (let l = c .before .before in
 closes c =
     let l = c .before .before in
     let p = l .loop .c in
-    gives l (read-closed p (l .loop .inv .1) listedCut (rest l) (not-false (p .complete) (c .if1 .left)))
+    gives l (read-closed p (l .loop .inv .1) listedCut (rest l) (not-false (p .layout .complete) (c .if1 .left)))
 
 returns-6 : tie.Need-returns-6 Inv-loop μ-loop
 returns-6 c =

@@ -2,6 +2,7 @@
 -- components as they are.
 use Prim.Native.Nat.{_-_, _≤_}
 use mathlib.Core.Path.{_≡_, refl, sym, _∙_}
+use mathlib.Core.Bool.{true}
 use native.Mathlib.Omega.{arith}
 use native.Mathlib.Numerals.{add-one}
 use lib.ListN.{length, take}
@@ -46,7 +47,7 @@ returns c =
     let e = components-done (now (a .s)) (now (a .places)) (a .n) (p .loop .i) (c .loop-test .left) in
     let n : a .n ≡ length cs = sym (components-length (now (a .s)) (now (a .places)) (a .n) (omega arith)) in
     let x : p .loop .out .components ≡ packComponents cs = sym (p .loop .inv .1 ∙ rw e) in
-    λ i. record { generation = a .generation; count = n i; components = x i }
+    λ i. record { generation = a .generation; count = n i; components = x i; complete = true }
 
 pub layout-at-spec : {M : Type 1} → statement M
 layout-at-spec =

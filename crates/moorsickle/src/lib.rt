@@ -4,9 +4,10 @@
 //
 // Layout, component and object are the records of crate `layout`, a target record that of crate `free_table`. A layout is
 // valid if its components keep the component rules and it is complete: what a collector holds with pages outstanding is
-// not complete, so every call that takes a layout refuses it by 1. Offsets,
-// lengths and bytes are counted in bytes, a file byte from the file's start and an object byte from its object's;
-// pages, components and stripes are counted from 0.
+// not complete, so every call that takes a layout refuses it by 1.
+//
+// Offsets, lengths and bytes are counted in bytes, a file byte from the file's start and an object byte from its
+// object's; pages, components and stripes are counted from 0.
 use collector::Answer;
 use collector::Collector;
 use collector::LayoutOut;

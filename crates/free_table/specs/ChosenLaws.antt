@@ -3,7 +3,7 @@ use Prim.Native.Nat.{ℕ, zero, suc, _+_, _<_}
 use mathlib.Core.Path.{_≡_, refl, sym, ap, _∙_}
 use mathlib.Core.List.{List, [], _∷_, map}
 use mathlib.Core.Logic.{_⊎_, inl, inr, ⊎-elim}
-use mathlib.Core.Bool.{Bool, true, false, cond}
+use mathlib.Core.Bool.{Bool, true, false}
 use native.Mathlib.Omega.{arith}
 use lib.ListN.{length, getD, take, length-take, length-map}
 use lib.Seq.{getD-take}
@@ -16,30 +16,13 @@ use Rattle.layout.specs.FactLaws.{same-object, same-object-refl}
 use Rattle.free_table.specs.declared.TargetRecord.{TargetRecord}
 use Rattle.free_table.specs.Table.{noRecord, rising}
 use Rattle.free_table.specs.Choosing.{nextObject, raised, passing, chosen, raisedFirst}
+use Rattle.free_table.specs.ChosenFacts.{NextOf, AllBelow, ChosenOrHigher, raisedIn}
 use Rattle.free_table.specs.TableLaws.{first-rises, target-above}
 use Rattle.free_table.specs.ChoosingLaws.{next-at, chosen-none, chosen-cons, chosen-above}
 
 -- The record is at a place of the table and passes the test.
 abbrev PlaceOf : (TargetRecord → Bool) → List TargetRecord → TargetRecord → Type 0
 PlaceOf ok rs q = (i : ℕ) × (i < length rs) × (ok (getD rs i noRecord) ≡ true) × (q ≡ getD rs i noRecord)
-
--- The object is the next one of a record of the table that passes the test.
-abbrev pub NextOf : (TargetRecord → Bool) → List TargetRecord → Object → Type 0
-NextOf ok rs o =
-    (i : ℕ) × (i < length rs) × (ok (getD rs i noRecord) ≡ true) × (o ≡ nextObject (getD rs i noRecord))
-
--- The targets of the objects are below this one.
-abbrev pub AllBelow : List Object → ℕ → Type 0
-AllBelow os target = (j : ℕ) → j < length os → getD os j noObject .target < target
-
--- Of s chosen objects, the next one of a record is one, or they are s indeed, and all on lower targets.
-abbrev pub ChosenOrHigher : ℕ → List Object → TargetRecord → Type 0
-ChosenOrHigher s os r =
-    (elem sameObject (nextObject r) os ≡ true) ⊎ ((length os ≡ s) × AllBelow os (r .target))
-
--- A record, raised if its next object is one of these.
-abbrev pub raisedIn : List Object → TargetRecord → TargetRecord
-raisedIn os r = cond (elem sameObject (nextObject r) os) (raised r) r
 
 -- With one more object in front, what was among them still is,
 elem-after : (x o : Object) (os : List Object) → elem sameObject x os ≡ true → elem sameObject x (o ∷ os) ≡ true

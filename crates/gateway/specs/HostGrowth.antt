@@ -6,8 +6,7 @@ use lib.Dec.{leb}
 use lib.ListN.{length}
 use lib.Seq.{sets}
 use Rattle.layout.specs.declared.Layout.{Layout}
-use Rattle.round_trip.specs.Pages.{writtenPages}
-use Rattle.round_trip.specs.RunsOfPages.{backToBack}
+use Rattle.round_trip.specs.Pages.{writtenPages, backToBack}
 use Rattle.mapping.specs.Answers.{Answer, gives, refuses}
 use Rattle.free_table.specs.declared.TargetRecord.{TargetRecord}
 use Rattle.growth_rules.specs.Growing.{Effect, Outcome, growOf}

@@ -23,7 +23,8 @@ use Rattle.free_table.specs.Table.{tableOf, tableOk, usable, withRecords}
 use Rattle.free_table.specs.ChoosingLaws.{length-raised}
 use Rattle.growth_rules.specs.Steps.{Call}
 use Rattle.growth_rules.specs.Growing.{Effect, Outcome, refusing, growIn, growOf}
-use Rattle.growth_rules.specs.CallLaws.{Changes, call-table, refusal-number}
+use Rattle.growth_rules.specs.CallFacts.{Changes}
+use Rattle.growth_rules.specs.CallLaws.{call-table, refusal-number}
 use Rattle.growth.specs.declared.Grown.{Grown}
 use Rattle.growth.specs.Answers.{callOf, GrownSays}
 use Rattle.gateway.specs.Host.{hostReading, lentAfter}

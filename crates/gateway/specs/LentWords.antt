@@ -11,8 +11,7 @@ use Rattle.layout.specs.Records.{view}
 use Rattle.paging.specs.declared.PageOut.{PageOut}
 use Rattle.paging.specs.declared.PageOut.the-variants.{Written, Refused}
 use Rattle.paging.specs.Paging.{isSome, fromPage, writtenPage}
-use Rattle.round_trip.specs.Pages.{writtenFrom}
-use Rattle.round_trip.specs.RunsOfPages.{backToBack}
+use Rattle.round_trip.specs.Pages.{writtenFrom, backToBack}
 use Rattle.mapping.specs.Answers.{gives}
 use Rattle.free_table.specs.declared.TargetRecord.{TargetRecord}
 use Rattle.free_table.specs.declared.Table.{Table}

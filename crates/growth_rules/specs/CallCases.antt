@@ -1,5 +1,5 @@
 -- What a call of growth comes to, in three cases.
-use Prim.Native.Nat.{ℕ, _+_, _≤_}
+use Prim.Native.Nat.{ℕ, _+_}
 use mathlib.Core.Path.{_≡_, refl}
 use mathlib.Core.List.{List, [], _∷_}
 use mathlib.Core.Bool.{true, false}
@@ -18,19 +18,11 @@ use Rattle.free_table.specs.Table.{usable, tableOk}
 use Rattle.free_table.specs.Choosing.{raisedFirst}
 use Rattle.growth_rules.specs.Steps.{Call, Step, stays, lacks, changes}
 use Rattle.growth_rules.specs.Growing.{Outcome, meets, stepOf, refusing, accepting, outcomeOf, growIn, growOf}
+use Rattle.growth_rules.specs.CallFacts.{Grown}
 
 -- "Growth: 1, 10, 15 to 19."
 abbrev pub growthRefusals : List ℕ
 growthRefusals = 1 ∷ 10 ∷ 15 ∷ 16 ∷ 17 ∷ 18 ∷ 19 ∷ []
-
--- The step of the call changes the components to cs, with the object records os chosen, and nothing refuses it.
-pub record Grown (l : Layout) (k : Call) (cs : List Component) (os : List Object) : Type 0 where
-  pub sound : valid l ≡ true
-  pub table : tableOk (k .table) ≡ true
-  pub step : stepOf l k ≡ changes cs os
-  pub few : length cs ≤ 16
-  pub apart : meets os (recordsIn (view l)) ≡ false
-  pub below : eqb (l .generation) 4294967295 ≡ false
 
 -- The cases: the call is refused by one of the numbers; it is accepted, and nothing changes; or it is accepted with a change.
 pub data Called (l : Layout) (k : Call) : Outcome → Type 0 where

@@ -13,19 +13,20 @@ use Rattle.lists.specs.Counting.{elem}
 use Rattle.layout.specs.declared.Object.{Object}
 use Rattle.layout.specs.declared.Component.{Component}
 use Rattle.layout.specs.declared.Layout.{Layout}
-use Rattle.layout.specs.Records.{idsOf, recordsOf, view, packed}
+use Rattle.layout.specs.Records.{idsOf, recordsOf, view}
 use Rattle.layout.specs.Holder.{holds}
 use Rattle.mapping.specs.Answers.{Answer, gives, refuses}
 use Rattle.mapping.specs.AnswerLaws.{gives-or-refuses, answer-gives}
 use Rattle.mapping.specs.Homes.{homeOf, isGiven, hasHome}
 use Rattle.free_table.specs.Table.{usable, anyLow}
-use Rattle.free_table.specs.Choosing.{chosen, raisedFirst}
+use Rattle.free_table.specs.Choosing.{chosen}
 use Rattle.free_table.specs.ChoosingLaws.{chosen-none, chosen-same}
 use Rattle.growth_rules.specs.Parts.{freshId}
 use Rattle.growth_rules.specs.Steps.{Call, Step, stays, lacks, changes, stepAfter, choosing, heldStep, spillStep, lowStep}
 use Rattle.growth_rules.specs.Steps.{extensionStep, stepOn}
 use Rattle.growth_rules.specs.Growing.{Effect, Outcome, stepOf, growOf}
-use Rattle.growth_rules.specs.CallCases.{growthRefusals, Called, refused, unchanged, grown, Grown, call-cases}
+use Rattle.growth_rules.specs.CallFacts.{Leaves, Changes}
+use Rattle.growth_rules.specs.CallCases.{growthRefusals, Called, refused, unchanged, grown, call-cases}
 
 -- An accepted call gives one effect.
 effect-same : (d e : Effect) → gives d ≡ gives e → d ≡ e
@@ -36,18 +37,14 @@ refusal-same : (m n : ℕ) → _≡_ {A = Answer Effect} (refuses m) (refuses n)
 refusal-same m n q = cc
 
 module _ (l : Layout) (k : Call) where
-  -- The layout and the table of an outcome are those that the call was given.
-  abbrev pub Leaves : Outcome → Type 0
-  Leaves o = (o .layout ≡ l) × (o .table ≡ k .table)
-
   -- The laws are shown of each of the three cases that a call comes to, and then of the call.
-  refused-leaves : {o : Outcome} → Called l k o → (n : ℕ) → o .answer ≡ refuses n → Leaves o
+  refused-leaves : {o : Outcome} → Called l k o → (n : ℕ) → o .answer ≡ refuses n → Leaves l k o
   refused-leaves (refused m e) n q = (refl, refl)
   refused-leaves unchanged n q = (refl, refl)
   refused-leaves (grown cs os g) n q = absurd (gives-or-refuses _ n q)
 
   -- "A refusal returns its number only; all lent memory keeps its bytes."
-  pub refusal-leaves : (n : ℕ) → growOf l k .answer ≡ refuses n → Leaves (growOf l k)
+  pub refusal-leaves : (n : ℕ) → growOf l k .answer ≡ refuses n → Leaves l k (growOf l k)
   refusal-leaves n e = refused-leaves (call-cases l k) n e
 
   refused-number : {o : Outcome} → Called l k o → (n : ℕ) → o .answer ≡ refuses n → elem eqb n growthRefusals ≡ true
@@ -71,31 +68,22 @@ module _ (l : Layout) (k : Call) where
       → e .home ≡ isGiven (homeOf (k .offset) (view (growOf l k .layout)))
   answer-home e q = answered-home (call-cases l k) e q
 
-  unchanged-same : {o : Outcome} → Called l k o → (e : Effect) → o .answer ≡ gives e → e .changed ≡ false → Leaves o
+  unchanged-same : {o : Outcome} → Called l k o → (e : Effect) → o .answer ≡ gives e → e .changed ≡ false → Leaves l k o
   unchanged-same (refused n r) e q c = (refl, refl)
   unchanged-same unchanged e q c = (refl, refl)
   unchanged-same (grown cs os g) e q c = clash (sym (ap (λ (d : Effect). d .changed) (effect-same _ e q))) c
 
   -- An accepted call that says that nothing changed leaves the layout and the table.
-  pub unchanged-leaves : (e : Effect) → growOf l k .answer ≡ gives e → e .changed ≡ false → Leaves (growOf l k)
+  pub unchanged-leaves : (e : Effect) → growOf l k .answer ≡ gives e → e .changed ≡ false → Leaves l k (growOf l k)
   unchanged-leaves e q c = unchanged-same (call-cases l k) e q c
 
-  -- The outcome is a change by the step of the call: "Each change adds 1 to the generation", and in the table the next numbers of
-  -- the chosen targets are raised.
-  pub record Changes (o : Outcome) : Type 0 where
-    pub components : List Component
-    pub objects : List Object
-    pub why : Grown l k components objects
-    pub layout : o .layout ≡ packed (l .generation + 1) components
-    pub table : o .table ≡ raisedFirst (usable (k .mark)) (length objects) (k .table)
-
-  changed-by : {o : Outcome} → Called l k o → (e : Effect) → o .answer ≡ gives e → e .changed ≡ true → Changes o
+  changed-by : {o : Outcome} → Called l k o → (e : Effect) → o .answer ≡ gives e → e .changed ≡ true → Changes l k o
   changed-by (refused n r) e q c = absurd (gives-or-refuses e n (sym q))
   changed-by unchanged e q c = clash c (sym (ap (λ (d : Effect). d .changed) (effect-same _ e q)))
   changed-by (grown cs os g) e q c = record { components = cs; objects = os; why = g; layout = refl; table = refl }
 
   -- An accepted call that says that the layout changed changes it by its step.
-  pub changed-changes : (e : Effect) → growOf l k .answer ≡ gives e → e .changed ≡ true → Changes (growOf l k)
+  pub changed-changes : (e : Effect) → growOf l k .answer ≡ gives e → e .changed ≡ true → Changes l k (growOf l k)
   changed-changes e q c = changed-by (call-cases l k) e q c
 
   -- "Each change adds 1 to the generation."
@@ -103,13 +91,13 @@ module _ (l : Layout) (k : Call) where
       → growOf l k .layout .generation ≡ l .generation + 1
   change-counted e q c = ap (λ (after : Layout). after .generation) (changed-changes e q c .layout)
 
-  outcome-table : {o : Outcome} → Called l k o → (o .table ≡ k .table) ⊎ Changes o
+  outcome-table : {o : Outcome} → Called l k o → (o .table ≡ k .table) ⊎ Changes l k o
   outcome-table (refused n r) = inl refl
   outcome-table unchanged = inl refl
   outcome-table (grown cs os g) = inr record { components = cs; objects = os; why = g; layout = refl; table = refl }
 
   -- The table after a call is the one that was given, or that of a change.
-  pub call-table : (growOf l k .table ≡ k .table) ⊎ Changes (growOf l k)
+  pub call-table : (growOf l k .table ≡ k .table) ⊎ Changes l k (growOf l k)
   call-table = outcome-table (call-cases l k)
 
   outcome-generation : {o : Outcome} → Called l k o → l .generation ≤ 4294967295 → o .layout .generation ≤ 4294967295

@@ -3,7 +3,6 @@
 use Prim.Native.Nat.{ℕ, _≤_, _<_}
 use mathlib.Core.Path.{_≡_}
 use mathlib.Core.List.{List}
-use mathlib.Core.Logic.{_≢_}
 use mathlib.Core.Option.{some}
 use mathlib.Core.Bool.{true}
 use native.Mathlib.Omega.{arith}
@@ -15,23 +14,11 @@ use Rattle.layout.specs.declared.Layout.{Layout}
 use Rattle.layout.specs.Records.{view}
 use Rattle.layout.specs.Rules.{valid}
 use Rattle.layout.specs.FactLaws.{valid-facts}
-use Rattle.layout.specs.Holder.{covers}
 use Rattle.mapping.specs.Homes.{Home, homeIn, homeOf}
 use Rattle.mapping.specs.BackLaws.{home-once}
 use Rattle.growth_rules.specs.Steps.{Call}
-use Rattle.growth_rules.specs.Moments.{moments}
+use Rattle.growth_rules.specs.Moments.{moments, Demand3}
 use Rattle.growth_rules.specs.MomentLaws.{home-no-extent, moment-valid, reading-kept, moment-covers}
-
--- The demand on the layouts ms of a list of moments that starts with l.
-pub record Demand3 (l : Layout) (ms : List Layout) : Type 0 where
-  -- A byte that has a home at a moment has exactly that home at every later one.
-  pub stay : (i j : ℕ) → i ≤ j → j < length ms → (b : ℕ) (h : Home) → homeOf b (view (getD ms i l)) ≡ some h
-      → homeOf b (view (getD ms j l)) ≡ some h
-  -- Two different bytes, each looked at in any moment, have different homes if both have one.
-  pub apart : (i j : ℕ) → i < length ms → j < length ms → (b b' : ℕ) → b ≢ b' → (h h' : Home)
-      → homeOf b (view (getD ms i l)) ≡ some h → homeOf b' (view (getD ms j l)) ≡ some h' → h ≢ h'
-  -- The stretch covered by all components together is exactly that of the start.
-  pub cover : (j : ℕ) → j < length ms → (b : ℕ) → covers (view (getD ms j l)) b ≡ covers (view l) b
 
 module _ (l : Layout) (ks : List Call) (v : valid l ≡ true) where
   -- Homes stay, as every reading does that does not look at the extent.

@@ -2,6 +2,7 @@ pub mod Parts
 pub mod Steps
 pub mod Growing
 pub mod Moments
+pub mod CallFacts
 pub mod StepLaws
 pub mod PartLaws
 pub mod Replacing

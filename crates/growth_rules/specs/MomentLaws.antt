@@ -23,8 +23,9 @@ use Rattle.mapping.specs.Cutting.{pieceFrom}
 use Rattle.growth_rules.specs.Steps.{Call}
 use Rattle.growth_rules.specs.Growing.{Outcome}
 use Rattle.growth_rules.specs.Moments.{afterCall, moments}
-use Rattle.growth_rules.specs.Replacing.{NoExtent}
-use Rattle.growth_rules.specs.CallCases.{Called, refused, unchanged, grown, Grown, call-cases}
+use Rattle.growth_rules.specs.Parts.{NoExtent}
+use Rattle.growth_rules.specs.CallFacts.{Grown}
+use Rattle.growth_rules.specs.CallCases.{Called, refused, unchanged, grown, call-cases}
 use Rattle.growth_rules.specs.ValidityLaws.{step-changed, changed-valid}
 
 -- The home by a component does not look at the component's extent.

@@ -1,5 +1,6 @@
 -- What the steps of growth do to single components and to an extension. What is in quotes is document 01's.
 use Prim.Native.Nat.{ℕ, zero, suc, _+_, min}
+use mathlib.Core.Path.{_≡_}
 use mathlib.Core.List.{List, [], _∷_}
 use mathlib.Core.Bool.{true, false, cond}
 use lib.Dec.{eqb}
@@ -25,6 +26,10 @@ withExtent begin end c =
       «extension_size» = c .«extension_size»;
       objects = c .objects;
     }
+
+-- A reading of a byte by a component that does not look at the component's extent.
+abbrev pub NoExtent : {A : Type 0} → (Component → ℕ → A) → Type 0
+NoExtent read = (begin end : ℕ) (c : Component) (b : ℕ) → read (withExtent begin end c) b ≡ read c b
 
 -- A component made init on the object records in the places of an array. Its first target is that of the first of them.
 abbrev pub initWith : List Object → Component → Component

@@ -16,12 +16,8 @@ use Rattle.layout.specs.Distinct.{sameObject}
 use Rattle.layout.specs.Facts.{IsInit, Fields, Linked}
 use Rattle.layout.specs.FactLaws.{startsExtension}
 use Rattle.mapping.specs.Homes.{readingOf}
-use Rattle.growth_rules.specs.Parts.{withExtent}
+use Rattle.growth_rules.specs.Parts.{NoExtent}
 use Rattle.growth_rules.specs.Steps.{Step, stays, lacks, changes}
-
--- A reading of a byte by a component that does not look at the component's extent.
-abbrev pub NoExtent : {A : Type 0} → (Component → ℕ → A) → Type 0
-NoExtent read = (begin end : ℕ) (c : Component) (b : ℕ) → read (withExtent begin end c) b ≡ read c b
 
 -- Where the last component of a list that is from `from` on ends.
 abbrev pub endFrom : ℕ → List Component → ℕ

@@ -25,7 +25,8 @@ use Rattle.free_table.specs.Choosing.{raisedFirst}
 use Rattle.free_table.specs.ChoosingLaws.{table-facts}
 use Rattle.growth_rules.specs.Steps.{Call}
 use Rattle.growth_rules.specs.Growing.{refusing, growIn, growOf}
-use Rattle.growth_rules.specs.CallLaws.{Changes, call-table}
+use Rattle.growth_rules.specs.CallFacts.{Changes}
+use Rattle.growth_rules.specs.CallLaws.{call-table}
 use Rattle.growth.specs.declared.Grown.{Grown}
 use Rattle.growth.specs.Answers.{callOf, growSays, GrownSays}
 use Rattle.moorsickle.specs.LentTable.{placesOf, emptyTable, withRecord, loadedFirst, loadedOf, withNext, withNexts}

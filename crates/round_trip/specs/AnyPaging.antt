@@ -31,8 +31,8 @@ use Rattle.collector.specs.Taking.{numberOf, isNext, joined, accepted, contentR
 use Rattle.collector.specs.TakingLaws.{refused-open, refused-content, refused-rule}
 use Rattle.collector.specs.Sound.{Sound, facts-sound}
 use Rattle.collector.specs.RunLaws.{new-held}
-use Rattle.round_trip.specs.Pages.{readPages}
-use Rattle.round_trip.specs.CompleteReading.{completed, componentsIn, somePages, ArePages, IsPage, some-in-page}
+use Rattle.round_trip.specs.Pages.{readPages, completed, componentsIn, somePages, IsPage, ArePages}
+use Rattle.round_trip.specs.CompleteReading.{some-in-page}
 
 -- Components after those of a layout whose unused places are blank give such a layout again.
 joined-packed : (h : Head) (old : ℕ) (xs ys : List Component)

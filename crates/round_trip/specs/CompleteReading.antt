@@ -33,33 +33,7 @@ use Rattle.collector.specs.Giving.{layoutOut}
 use Rattle.collector.specs.Sound.{Sound, facts-sound, content-taken, view-joined, sound-added}
 use Rattle.collector.specs.RunLaws.{new-held}
 use Rattle.paging.specs.Paging.{isSome}
-use Rattle.round_trip.specs.Pages.{readPages}
-
--- What taking pages gives if the last of them completes the collector: the answer "complete", and the collector c.
-abbrev pub completed : Collector → Taken
-completed c = record { answer = Complete; collector = c }
-
--- The components of pages, one page after the other.
-abbrev pub componentsIn : List (List ℕ) → List Component
-componentsIn [] = []
-componentsIn (p ∷ ps) = componentsOf p ++ componentsIn ps
-
--- Are there pages?
-abbrev pub somePages : List (List ℕ) → Bool
-somePages [] = false
-somePages (p ∷ ps) = true
-
--- The bytes are page k of a layout of generation g, and `more` says whether pages follow it.
-pub record IsPage (g k : ℕ) (more : Bool) (p : List ℕ) : Type 0 where
-  pub form : pageForm p ≡ true
-  pub number : headOf p .number ≡ k
-  pub generation : headOf p .generation ≡ g
-  pub follows : headOf p .more ≡ more
-
--- The pages are those of a layout of generation g from page k on, up to its last.
-abbrev pub ArePages : ℕ → ℕ → List (List ℕ) → Type 0
-ArePages g k [] = Unit {0}
-ArePages g k (p ∷ ps) = IsPage g k (somePages ps) p × ArePages g (suc k) ps
+use Rattle.round_trip.specs.Pages.{readPages, completed, componentsIn, somePages, ArePages}
 
 -- What a reading of the pages ps tells that starts at the collector c₀ and ends at the complete collector c.
 pub record WholeReading (c₀ c : Collector) (ps : List (List ℕ)) : Type 0 where

@@ -1,6 +1,5 @@
--- The numbers of a layout fit the types that they have in memory, and the components of a valid layout in memory are
--- such as a page can hold.
-use Prim.Native.Nat.{ℕ, _^_, _≤_, _<_}
+-- The components of a valid layout in memory are such as a page can hold.
+use Prim.Native.Nat.{ℕ, _≤_}
 use mathlib.Core.Path.{_≡_}
 use mathlib.Core.List.{List, [], _∷_}
 use mathlib.Core.Bool.{true}
@@ -12,18 +11,8 @@ use Rattle.layout.specs.Records.{recordCount, view}
 use Rattle.layout.specs.Rules.{valid}
 use Rattle.layout.specs.Facts.{Kind, Fields}
 use Rattle.layout.specs.FactLaws.{kind-few, kind-records, valid-facts}
-use Rattle.page.specs.Same.{NumbersFit, AllFit}
-
--- The numbers of each component of the list fit their types.
-abbrev pub AllNumbersFit : List Component → Type 0
-AllNumbersFit [] = Unit {0}
-AllNumbersFit (c ∷ cs) = NumbersFit c × AllNumbersFit cs
-
--- The numbers of a layout fit their types, as those of every `Layout` in memory do: u32 for the generation, and the
--- types of a component's numbers for those of its components. It asks for no rule: a layout in memory may break any.
-pub record InMemory (l : Layout) : Type 0 where
-  pub generation : l .generation < 2 ^ 32
-  pub components : AllNumbersFit (view l)
+use Rattle.page.specs.Same.{AllFit}
+use Rattle.round_trip.specs.Pages.{AllNumbersFit, InMemory}
 
 -- A component that keeps refusal 6's rule is to have at most 16 object records.
 pub kind-count : {c : Component} → Kind c → recordCount c ≤ 16

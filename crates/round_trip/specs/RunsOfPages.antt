@@ -35,20 +35,9 @@ use Rattle.collector.specs.Runs.{Next, ended, next, refusedAt, closed, readRun,
 use Rattle.collector.specs.RunLaws.{Held, readFrom, open-taken, page-open, taken-held, taken-pages, read-closed}
 use Rattle.collector.specs.RunLaws.{read-ended, read-taken, closed-more, new-held, read-start}
 use Rattle.collector.specs.CutLaws.{listed-ended, listed-next, host-ended, host-page, host-ends}
-use Rattle.round_trip.specs.Pages.{readPages, writtenPages, blanked}
-use Rattle.round_trip.specs.InMemory.{InMemory}
+use Rattle.round_trip.specs.Pages.{readPages, writtenPages, blanked, InMemory, backToBack, listed}
 use Rattle.round_trip.specs.WriteThenRead.{written-read-back, written-given-back}
 use Rattle.round_trip.specs.CompleteReading.{answered-complete}
-
--- The pages one after the other: "the layout as pages back to back".
-abbrev pub backToBack : List (List ℕ) → List ℕ
-backToBack [] = []
-backToBack (p ∷ ps) = p ++ backToBack ps
-
--- The pages as the listing reads them: "pages, each after its u16 length".
-abbrev pub listed : List (List ℕ) → List ℕ
-listed [] = []
-listed (p ∷ ps) = u16Bytes (length p) ++ p ++ listed ps
 
 -- `cut` takes apart what `join` puts into one run: no pages are no bytes; if there are no bytes, nothing is
 -- next; and if a page of good form is first, it is cut off just at its end, whatever is after it.

@@ -24,24 +24,9 @@ use Rattle.collector.specs.Collector.{newCollector}
 use Rattle.collector.specs.Taking.{numberOf, pageIn}
 use Rattle.collector.specs.Giving.{layoutOut}
 use Rattle.collector.specs.Runs.{Next, ended, broken, next, closed, following, readOn, readRun, listedCut, hostCut}
-use Rattle.round_trip.specs.Pages.{readPages, writtenPages, pagedByRule, AllBytes}
-use Rattle.round_trip.specs.CompleteReading.{completed, reading-out}
+use Rattle.round_trip.specs.Pages.{writtenPages, pagedByRule, backToBack, listed, FromPages}
+use Rattle.round_trip.specs.CompleteReading.{reading-out}
 use Rattle.round_trip.specs.ReadThenWrite.{read-written-again}
-use Rattle.round_trip.specs.RunsOfPages.{backToBack, listed}
-
--- The bytes s are pages in one run, as `join` puts them; the collector c takes all of these pages, one after another,
--- and the last of them completes it; r is the reading that ends there, with no byte left.
-pub record FromPages (join : List (List ℕ) → List ℕ) (c : Collector) (s : List ℕ) (r : Reading) : Type 0 where
-  -- The pages, each a list of bytes.
-  pub pages : List (List ℕ)
-  pub each : AllBytes pages
-  -- The run is these pages.
-  pub bytes : s ≡ join pages
-  -- The collector that has taken them, which is complete.
-  pub last : Collector
-  pub taken : readPages c pages ≡ completed last
-  -- The reading is the one that ends with that collector.
-  pub given : r ≡ closed last []
 
 -- What `cut` takes apart, `join` puts together again: no pages are no bytes; and if the cut finds a page p at the
 -- front of the bytes s and `rest` after it, both are bytes, and s is p joined with the pages that the rest is.

@@ -25,8 +25,8 @@ use Rattle.page.specs.ReadWritten.{componentsAt, read-whole, read-end, read-wri
 use Rattle.paging.specs.Paging.{fitting, sizesOf, fromPage, firstPage, laterPages, isSome, headFor}
 use Rattle.paging.specs.Paging.{pageFrom, writtenPage}
 use Rattle.paging.specs.PagingLaws.{next-page}
-use Rattle.round_trip.specs.Pages.{writtenFrom, firstSize, pagedByRule, AllBytes}
-use Rattle.round_trip.specs.CompleteReading.{componentsIn, ArePages, some-left}
+use Rattle.round_trip.specs.Pages.{writtenFrom, firstSize, pagedByRule, AllBytes, componentsIn, ArePages}
+use Rattle.round_trip.specs.CompleteReading.{some-left}
 
 -- The first of the components, if there is one, does not fit into `room` bytes after the `used` bytes.
 abbrev DoesNotFit : ℕ → ℕ → List Component → Type 0

@@ -26,12 +26,13 @@ use Rattle.collector.specs.Collector.{newCollector}
 use Rattle.collector.specs.Giving.{layoutOut}
 use Rattle.paging.specs.Paging.{inPage, sizesOf, fromPage, firstPage, laterPages, isSome, headFor, writtenPage}
 use Rattle.paging.specs.PagingLaws.{inPage-le, next-page, first-later}
-use Rattle.round_trip.specs.Pages.{readPages, writtenFrom, writtenPages, blanked}
-use Rattle.round_trip.specs.InMemory.{InMemory, layout-fits}
+use Rattle.round_trip.specs.Pages.{readPages, writtenFrom, writtenPages, blanked, InMemory}
+use Rattle.round_trip.specs.Pages.{componentsIn, somePages, IsPage, ArePages}
+use Rattle.round_trip.specs.InMemory.{layout-fits}
 use Rattle.round_trip.specs.Blanking.{keeps-same, view-blanked}
 use Rattle.round_trip.specs.PageLaws.{startOf, length-first, first-room, page-there, page-some}
 use Rattle.round_trip.specs.PageLaws.{start-rises, number-le, written-cons, written-nil}
-use Rattle.round_trip.specs.CompleteReading.{componentsIn, somePages, ArePages, IsPage, some-left, reading-out}
+use Rattle.round_trip.specs.CompleteReading.{some-left, reading-out}
 use Rattle.round_trip.specs.AnyPaging.{any-paging}
 
 -- Of components that a page can hold, the first ones and the last ones are such.

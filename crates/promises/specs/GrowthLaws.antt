@@ -12,10 +12,12 @@ use Rattle.layout.specs.Records.{noObject}
 use Rattle.free_table.specs.declared.TargetRecord.{TargetRecord}
 use Rattle.free_table.specs.Table.{noRecord, rising, tableOk, usable}
 use Rattle.free_table.specs.Choosing.{chosen}
-use Rattle.free_table.specs.ChosenLaws.{NextOf, ChosenOrHigher, raisedIn, chosen-usable, chosen-lowest, raised-chosen}
+use Rattle.free_table.specs.ChosenFacts.{NextOf, ChosenOrHigher, raisedIn}
+use Rattle.free_table.specs.ChosenLaws.{chosen-usable, chosen-lowest, raised-chosen}
 use Rattle.growth_rules.specs.Steps.{Call}
 use Rattle.growth_rules.specs.Growing.{growOf}
-use Rattle.growth_rules.specs.CallLaws.{Changes, step-chosen}
+use Rattle.growth_rules.specs.CallFacts.{Changes}
+use Rattle.growth_rules.specs.CallLaws.{step-chosen}
 
 -- In a table that is not bad the targets rise.
 table-rises : (rs : List TargetRecord) → tableOk rs ≡ true → rising 0 rs ≡ true

@@ -1,5 +1,5 @@
--- The laws of refusal numbers: what the lowest number means, and the numbers that the calls' definitions give.
-use Prim.Native.Nat.{ℕ, zero, suc, _+_, _^_, _≤_, _<_}
+-- The laws of refusal numbers: what the first number means, and the numbers that the calls' definitions give.
+use Prim.Native.Nat.{ℕ, zero, suc, _^_, _<_}
 use mathlib.Core.Path.{_≡_, refl, sym, _∙_}
 use mathlib.Core.List.{List, [], _∷_}
 use mathlib.Core.Logic.{_↔_, _⊎_, inl, inr, ⊎-elim}
@@ -7,8 +7,8 @@ use mathlib.Core.Bool.{Bool, true, false, not, cond, _&&_, _||_}
 use native.Mathlib.Omega.{arith}
 use lib.Dec.{leb, ltb, eqb}
 use lib.ListN.{length}
-use borrow.Author.Tests.{leb-true, leb-false, lt-ltb, le-ltb}
-use Rattle.lists.specs.Bools.{bool-cases, both-true}
+use borrow.Author.Tests.{leb-true, leb-false, lt-ltb, le-ltb, eqb-false, not-true}
+use Rattle.lists.specs.Bools.{bool-cases, both-true, both-false}
 use Rattle.layout.specs.declared.Object.{Object}
 use Rattle.layout.specs.declared.Component.{Component}
 use Rattle.layout.specs.declared.Layout.{Layout}
@@ -26,111 +26,101 @@ use Rattle.paging.specs.Paging.{outBuffer}
 use Rattle.free_table.specs.Table.{tableOk}
 use Rattle.growth_rules.specs.Steps.{Call, Step, stays, lacks, changes}
 use Rattle.growth_rules.specs.Growing.{meets, stepOf, outcomeOf, growIn, growOf}
-use Rattle.moorsickle.specs.Numbers.{Refusal, _when_, lowest, rise, IsLowest, refusalAt, NoLower, answerNumber}
-use Rattle.moorsickle.specs.Numbers.{hidden, lacksTargets, leavesMany, meetsLayout, isChange}
+use Rattle.promises.specs.Numbers.{Refusal, _when_, first, has, differ, IsFirst, refusalAt, NoneBefore}
+use Rattle.promises.specs.Numbers.{answerNumber}
+use Rattle.promises.specs.Calls.{hidden, lacksTargets, leavesMany, meetsLayout, isChange}
 
--- The first number is not below `from`, and the others rise from the next one on.
-rise-first : (from : ℕ) (r : Refusal) (rs : List Refusal) → rise from (r ∷ rs) ≡ true
-    → (from ≤ r .number) × (rise (r .number + 1) rs ≡ true)
-rise-first from r rs e =
-    let p = both-true (leb from (r .number)) (rise (r .number + 1) rs) e in
-    (leb-true from (r .number) (p .0), p .1)
+-- The first number is not 0 and is not among the others, which differ.
+differ-first : (r : Refusal) (rs : List Refusal) → differ (r ∷ rs) ≡ true
+    → (eqb (r .number) 0 ≡ false) × (has (r .number) rs ≡ false) × (differ rs ≡ true)
+differ-first r rs e =
+    let some = not (eqb (r .number) 0) in
+    let p = both-true (some && not (has (r .number) rs)) (differ rs) e in
+    let q = both-true some (not (has (r .number) rs)) (p .0) in
+    (not-true (eqb (r .number) 0) (q .0), not-true (has (r .number) rs) (q .1), p .1)
 
--- No number is below `from`.
-rise-at : (from : ℕ) (rs : List Refusal) → rise from rs ≡ true → (i : ℕ) → i < length rs → from ≤ refusalAt rs i .number
-rise-at from [] e i h = absurd (omega arith)
-rise-at from (r ∷ rs) e zero h = rise-first from r rs e .0
-rise-at from (r ∷ rs) e (suc i) h =
-    let p = rise-first from r rs e in
-    omega (arith, rise-at (r .number + 1) rs (p .1) i (omega arith), p .0)
+-- A number that a list does not have is not that of a refusal of it.
+not-listed : (n : ℕ) (rs : List Refusal) → has n rs ≡ false → (i : ℕ) → i < length rs → n ≡ refusalAt rs i .number → ⊥
+not-listed n [] e i h q = omega arith
+not-listed n (r ∷ rs) e zero h q = eqb-false n (r .number) (both-false (eqb n (r .number)) (has n rs) e .0) q
+not-listed n (r ∷ rs) e (suc i) h q =
+    not-listed n rs (both-false (eqb n (r .number)) (has n rs) e .1) i (omega arith) q
 
 -- What is given is 0, or the number of a refusal of the list.
-lowest-listed : (rs : List Refusal) → (lowest rs ≡ 0) ⊎ ((i : ℕ) × (i < length rs) × (lowest rs ≡ refusalAt rs i .number))
-lowest-listed [] = inl refl
-lowest-listed (r ∷ rs) =
+first-listed : (rs : List Refusal) → (first rs ≡ 0) ⊎ ((i : ℕ) × (i < length rs) × (first rs ≡ refusalAt rs i .number))
+first-listed [] = inl refl
+first-listed (r ∷ rs) =
     bool-cases (r .applies) (λ e. inr (0, omega arith, rw e))
-    (λ e. ⊎-elim (λ z. inl (rw e z)) (λ p. inr (suc (p .0), omega (arith, p .1), rw e (p .2))) (lowest-listed rs))
+    (λ e. ⊎-elim (λ z. inl (rw e z)) (λ p. inr (suc (p .0), omega (arith, p .1), rw e (p .2))) (first-listed rs))
 
--- So it is 0, or not below `from`.
-lowest-from : (from : ℕ) (rs : List Refusal) → rise from rs ≡ true → (lowest rs ≡ 0) ⊎ (from ≤ lowest rs)
-lowest-from from rs e =
-    ⊎-elim (λ z. inl z) (λ p. inr (omega (arith, rise-at from rs e (p .0) (p .1), p .2))) (lowest-listed rs)
-
--- If the number of a refusal is given, it applies, and none of a lower number does,
-given-applies : (from : ℕ) (rs : List Refusal) → 1 ≤ from → rise from rs ≡ true → (i : ℕ) → i < length rs
-    → lowest rs ≡ refusalAt rs i .number → (refusalAt rs i .applies ≡ true) × NoLower rs i
-given-applies from [] f e i h q = absurd (omega arith)
-given-applies from (r ∷ rs) f e zero h q =
-    let p = rise-first from r rs e in
+-- If the number of a refusal is given, it applies, and none before it does,
+given-applies : (rs : List Refusal) → differ rs ≡ true → (i : ℕ) → i < length rs → first rs ≡ refusalAt rs i .number
+    → (refusalAt rs i .applies ≡ true) × NoneBefore rs i
+given-applies [] e i h q = absurd (omega arith)
+given-applies (r ∷ rs) e zero h q =
+    let p = differ-first r rs e in
+    bool-cases (r .applies) (λ t. (t, λ j k. absurd (omega arith)))
+    (λ t. let same : first rs ≡ r .number = rw t at q in
+    absurd (⊎-elim (λ z. eqb-false (r .number) 0 (p .0) (sym same ∙ z))
+    (λ z. not-listed (r .number) rs (p .1) (z .0) (z .1) (sym same ∙ z .2)) (first-listed rs)))
+given-applies (r ∷ rs) e (suc i) h q =
+    let p = differ-first r rs e in
     bool-cases (r .applies)
-    (λ t. (t, λ j k l. absurd (omega (arith, rise-at from (r ∷ rs) e j k, later j k l))))
-    (λ t. ⊎-elim (λ z. absurd (omega (arith, z, rw t at q, p .0)))
-    (λ z. absurd (omega (arith, z, rw t at q)))
-    (lowest-from (r .number + 1) rs (p .1)))
+    (λ t. let same : r .number ≡ refusalAt rs i .number = rw t at q in
+    absurd (not-listed (r .number) rs (p .1) i (omega arith) same))
+    (λ t. let g = given-applies rs (p .2) i (omega arith) (rw t at q) in (g .0, none t (g .1)))
   where
-    later : (j : ℕ) → j < length (r ∷ rs) → refusalAt (r ∷ rs) j .number < r .number → ⊥
-    later zero k l = omega arith
-    later (suc j) k l = omega (arith, rise-at (r .number + 1) rs (rise-first from r rs e .1) j (omega arith))
-given-applies from (r ∷ rs) f e (suc i) h q =
-    let p = rise-first from r rs e in
-    let above = rise-at (r .number + 1) rs (p .1) i (omega arith) in
-    bool-cases (r .applies)
-    (λ t. absurd (omega (arith, rw t at q, above)))
-    (λ t. let g = given-applies (r .number + 1) rs (omega arith) (p .1) i (omega arith) (rw t at q) in
-    (g .0, none t (g .1)))
-  where
-    none : r .applies ≡ false → NoLower rs i → NoLower (r ∷ rs) (suc i)
-    none t g zero k l = t
-    none t g (suc j) k l = g j (omega arith) l
+    none : r .applies ≡ false → NoneBefore rs i → NoneBefore (r ∷ rs) (suc i)
+    none t g zero k = t
+    none t g (suc j) k = g j (omega arith)
 
--- and the number of a refusal that applies, while none of a lower number does, is given.
-applies-given : (from : ℕ) (rs : List Refusal) → rise from rs ≡ true → (i : ℕ) → i < length rs
-    → refusalAt rs i .applies ≡ true → NoLower rs i → lowest rs ≡ refusalAt rs i .number
-applies-given from [] e i h a none = absurd (omega arith)
-applies-given from (r ∷ rs) e zero h a none = rw a
-applies-given from (r ∷ rs) e (suc i) h a none =
-    let p = rise-first from r rs e in
-    let above = rise-at (r .number + 1) rs (p .1) i (omega arith) in
-    let first : r .applies ≡ false = none 0 (omega arith) (omega arith) in
-    rw first (applies-given (r .number + 1) rs (p .1) i (omega arith) a (λ j k l. none (suc j) (omega arith) l))
+-- and the number of a refusal that applies, while none before it does, is given.
+applies-given : (rs : List Refusal) (i : ℕ) → i < length rs → refusalAt rs i .applies ≡ true → NoneBefore rs i
+    → first rs ≡ refusalAt rs i .number
+applies-given [] i h a none = absurd (omega arith)
+applies-given (r ∷ rs) zero h a none = rw a
+applies-given (r ∷ rs) (suc i) h a none =
+    let before : r .applies ≡ false = none 0 (omega arith) in
+    rw before (applies-given rs i (omega arith) a (λ j k. none (suc j) (omega arith)))
 
 -- 0 is given if no refusal applies,
-none-zero : (rs : List Refusal) → ((i : ℕ) → i < length rs → refusalAt rs i .applies ≡ false) → lowest rs ≡ 0
+none-zero : (rs : List Refusal) → ((i : ℕ) → i < length rs → refusalAt rs i .applies ≡ false) → first rs ≡ 0
 none-zero [] f = refl
 none-zero (r ∷ rs) f = rw (f 0 (omega arith)) (none-zero rs (λ i h. f (suc i) (omega arith)))
 
 -- and only there.
-zero-none : (from : ℕ) (rs : List Refusal) → 1 ≤ from → rise from rs ≡ true → lowest rs ≡ 0
-    → (i : ℕ) → i < length rs → refusalAt rs i .applies ≡ false
-zero-none from [] f e z i h = absurd (omega arith)
-zero-none from (r ∷ rs) f e z i h =
-    let p = rise-first from r rs e in
-    bool-cases (r .applies) (λ t. absurd (omega (arith, rw t at z, p .0)))
-    (λ t. at-place i h t (zero-none (r .number + 1) rs (omega arith) (p .1) (rw t at z)))
+zero-none : (rs : List Refusal) → differ rs ≡ true → first rs ≡ 0 → (i : ℕ) → i < length rs
+    → refusalAt rs i .applies ≡ false
+zero-none [] e z i h = absurd (omega arith)
+zero-none (r ∷ rs) e z i h =
+    let p = differ-first r rs e in
+    bool-cases (r .applies)
+    (λ t. let same : r .number ≡ 0 = rw t at z in absurd (eqb-false (r .number) 0 (p .0) same))
+    (λ t. at-place i h t (zero-none rs (p .2) (rw t at z)))
   where
     at-place : (i : ℕ) → i < length (r ∷ rs) → r .applies ≡ false
         → ((j : ℕ) → j < length rs → refusalAt rs j .applies ≡ false) → refusalAt (r ∷ rs) i .applies ≡ false
     at-place zero h t g = t
     at-place (suc j) h t g = g j (omega arith)
 
-module _ (rs : List Refusal) (n : ℕ) (g : IsLowest n rs) where
-  -- "each is given exactly if its condition holds and no lower one's does"
+module _ (rs : List Refusal) (n : ℕ) (g : IsFirst n rs) where
+  -- Each number is given exactly if its condition holds and that of none before it does.
   pub given-exactly : (i : ℕ) → i < length rs
-      → (n ≡ refusalAt rs i .number) ↔ ((refusalAt rs i .applies ≡ true) × NoLower rs i)
+      → (n ≡ refusalAt rs i .number) ↔ ((refusalAt rs i .applies ≡ true) × NoneBefore rs i)
   given-exactly i h = (
-    λ e. given-applies 1 rs (omega arith) (g .0) i h (sym (g .1) ∙ e),
-    λ p. g .1 ∙ applies-given 1 rs (g .0) i h (p .0) (p .1),
+    λ e. given-applies rs (g .0) i h (sym (g .1) ∙ e),
+    λ p. g .1 ∙ applies-given rs i h (p .0) (p .1),
   )
 
   -- 0 is given exactly if no condition holds.
   pub zero-exactly : (n ≡ 0) ↔ ((i : ℕ) → i < length rs → refusalAt rs i .applies ≡ false)
-  zero-exactly = (λ e. zero-none 1 rs (omega arith) (g .0) (sym (g .1) ∙ e), λ f. g .1 ∙ none-zero rs f)
+  zero-exactly = (λ e. zero-none rs (g .0) (sym (g .1) ∙ e), λ f. g .1 ∙ none-zero rs f)
 
   -- No other number is given.
   pub given-listed : (n ≡ 0) ⊎ ((i : ℕ) × (i < length rs) × (n ≡ refusalAt rs i .number))
-  given-listed = ⊎-elim (λ z. inl (g .1 ∙ z)) (λ p. inr (p .0, p .1, g .1 ∙ p .2)) (lowest-listed rs)
+  given-listed = ⊎-elim (λ z. inl (g .1 ∙ z)) (λ p. inr (p .0, p .1, g .1 ∙ p .2)) (first-listed rs)
 
--- A chain of tests gives the lowest number, test by test: n if the test refuses, else m, which the rest of the chain
+-- A chain of tests gives the first number, test by test: n if the test refuses, else m, which the rest of the chain
 -- gives. The test refuses if it passes,
 pub refused-if : (t : Bool) (n : ℕ) {x m : ℕ} → x ≡ m → cond t n x ≡ cond t n m
 refused-if true n e = refl
@@ -185,7 +175,7 @@ growth-number l k =
 -- The number that a step of growth gives.
 pub step-number : (l : Layout) (k : Call) (s : Step)
     → answerNumber (outcomeOf l k s .answer)
-    ≡ lowest (
+    ≡ first (
     16 when lacksTargets s
     ∷ 17 when leavesMany s
     ∷ 18 when meetsLayout (recordsIn (view l)) s

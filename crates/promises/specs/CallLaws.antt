@@ -25,13 +25,11 @@ use Rattle.layout.specs.Holder.{lastEnd}
 use Rattle.page.specs.Form.{pageForm}
 use Rattle.page.specs.Content.{headOf, componentsOf}
 use Rattle.collector.specs.declared.Collector.{Collector}
-use Rattle.collector.specs.declared.Answer as takes
 use Rattle.collector.specs.declared.Answer.the-variants.{More, Complete}
 use Rattle.collector.specs.Collector.{gathered, collectorOk}
 use Rattle.collector.specs.Taking.{numberOf, isNext, added, contentRefusal, openRefusal, pageRefusal, pageIn}
 use Rattle.collector.specs.Giving.{layoutOut}
 use Rattle.collector.specs.CallLaws.{answer-number, taken-answer, taken-collector, refused-collector}
-use Rattle.paging.specs.declared.PageOut.{PageOut}
 use Rattle.paging.specs.declared.PageOut.the-variants.{Written}
 use Rattle.paging.specs.Paging.{isSome, fromPage, writtenPage, writeRefusal, outRefusal}
 use Rattle.paging.specs.Paging.{outAnswer, outNumber, outBuffer}
@@ -135,44 +133,37 @@ growth-number l k = (
       (refused-unless (tableOk (k .table)) 15 (numbers.step-number l k (stepOf l k)))),
 )
 
--- A page in: by its number, it is refused and the collector stays, or it is taken.
-pub page-in-says : (c : Collector) (s : List ℕ) (r : takes.Answer) → r ≡ pageIn c s .answer
-    → IsFirst (numberOf r) (pageInNumbers c s)
-    × (0 < numberOf r → pageIn c s .collector ≡ c)
-    × (numberOf r ≡ 0 → (r ≡ cond (headOf s .more) More Complete)
-    × (pageIn c s .collector ≡ added c (headOf s) (componentsOf s)))
-page-in-says c s r e =
-    let n : numberOf r ≡ pageRefusal c s = ap numberOf e ∙ answer-number c s in
-    let g = page-in-number c s in (
-      (g .0, n ∙ g .1),
-      λ h. refused-collector c s (omega (arith, n, h)),
-      λ z. (e ∙ taken-answer c s (sym n ∙ z), taken-collector c s (sym n ∙ z)),
-    )
+module _ (c : Collector) (s : List ℕ) where
+  -- A page in that is refused leaves the collector,
+  pub page-in-refused : IsFirst (numberOf (pageIn c s .answer)) (pageInNumbers c s)
+      × (0 < numberOf (pageIn c s .answer) → pageIn c s .collector ≡ c)
+  page-in-refused =
+      let n : numberOf (pageIn c s .answer) ≡ pageRefusal c s = answer-number c s in
+      let g = page-in-number c s in
+      ((g .0, n ∙ g .1), λ h. refused-collector c s (omega (arith, n, h)))
 
--- A page out: under 0 the page is written.
-out-written : (n : ℕ) (page buffer : List ℕ) → n ≡ 0
+  -- and one that is not is taken.
+  pub page-in-taken : numberOf (pageIn c s .answer) ≡ 0
+      → (pageIn c s .answer ≡ cond (headOf s .more) More Complete)
+      × (pageIn c s .collector ≡ added c (headOf s) (componentsOf s))
+  page-in-taken z = let n = sym (answer-number c s) ∙ z in (taken-answer c s n, taken-collector c s n)
+
+-- A page out: by its number it is refused and the buffer stays,
+pub page-out-refused : (l : Layout) (k : ℕ) (buffer : List ℕ)
+    → let n = outRefusal l k (length buffer) in
+    IsFirst (outNumber (outAnswer n (writtenPage l k))) (pageOutNumbers l k (length buffer))
+    × (0 < n → outBuffer n (writtenPage l k) buffer ≡ buffer)
+page-out-refused l k buffer =
+    let n = outRefusal l k (length buffer) in
+    let g = page-out-number l k (length buffer) in
+    ((g .0, out-number n (writtenPage l k) ∙ g .1), λ h. numbers.buffer-kept n (writtenPage l k) buffer h)
+
+-- or it is written.
+pub page-out-written : (n : ℕ) (page buffer : List ℕ) → n ≡ 0
     → (outAnswer n page ≡ Written (length page)) × (outBuffer n page buffer ≡ sets buffer 0 page)
 unfolding outAnswer outBuffer
-out-written zero page buffer z = (refl, refl)
-out-written (suc n) page buffer z = absurd (omega arith)
-
--- By its number it is refused and the buffer stays, or it is written.
-pub page-out-says : (l : Layout) (k : ℕ) (buffer : List ℕ) (r : PageOut)
-    → let n = outRefusal l k (length buffer) in
-    let page = writtenPage l k in
-    r ≡ outAnswer n page
-    → IsFirst (outNumber r) (pageOutNumbers l k (length buffer))
-    × (0 < outNumber r → outBuffer n page buffer ≡ buffer)
-    × (outNumber r ≡ 0 → (r ≡ Written (length page)) × (outBuffer n page buffer ≡ sets buffer 0 page))
-page-out-says l k buffer r e =
-    let n = outRefusal l k (length buffer) in
-    let page = writtenPage l k in
-    let same : outNumber r ≡ n = ap outNumber e ∙ out-number n page in
-    let g = page-out-number l k (length buffer) in (
-      (g .0, same ∙ g .1),
-      λ h. numbers.buffer-kept n page buffer (omega (arith, same, h)),
-      λ z. let w = out-written n page buffer (sym same ∙ z) in (e ∙ w .0, w .1),
-    )
+page-out-written zero page buffer z = (refl, refl)
+page-out-written (suc n) page buffer z = absurd (omega arith)
 
 -- A lookup that gives something is of a valid layout.
 lookup-valid : (l : Layout) (b : ℕ) (h : Home) → lookupOf b l ≡ gives (some h) → valid l ≡ true

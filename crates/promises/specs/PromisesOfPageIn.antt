@@ -1,0 +1,60 @@
+-- The promises on pages in and the layout out of a collector, beside those of `Promises`, which says how to read this.
+-- The contracts of `moorsickle::take_page` and `layout_of` give `pageIn` and `layoutOut`. What is in quotes is document
+-- 01's.
+use Prim.Native.Nat.{ℕ, _≤_, _<_}
+use mathlib.Core.Path.{_≡_}
+use mathlib.Core.List.{List, []}
+use mathlib.Core.Bool.{true, false, cond}
+use lib.ListN.{length}
+use Rattle.layout.specs.Records.{packed}
+use Rattle.layout.specs.Facts.{Keeps}
+use Rattle.page.specs.Content.{headOf, componentsOf}
+use Rattle.collector.specs.declared.Collector.{Collector}
+use Rattle.collector.specs.declared.Answer.the-variants.{More, Complete}
+use Rattle.collector.specs.Collector.{newCollector}
+use Rattle.collector.specs.Taking.{numberOf, added, pageRefusal, pageIn}
+use Rattle.collector.specs.Giving.{layoutOut}
+use Rattle.collector.specs.CallLaws as collecting
+use Rattle.round_trip.specs.Pages.{readPages, componentsIn, somePages, ArePages}
+use Rattle.round_trip.specs.AnyPaging as anyhow
+use Rattle.promises.specs.Numbers.{IsFirst}
+use Rattle.promises.specs.Calls.{pageInNumbers, layoutOutNumbers}
+use Rattle.promises.specs.CallLaws as calls
+
+-- "Page in: 1 to 8."
+pub page-in-number : (c : Collector) (s : List ℕ) → IsFirst (pageRefusal c s) (pageInNumbers c s)
+page-in-number = calls.page-in-number
+
+-- The answer has that number;
+pub page-in-answer : (c : Collector) (s : List ℕ) → numberOf (pageIn c s .answer) ≡ pageRefusal c s
+page-in-answer = collecting.answer-number
+
+-- a page that is refused leaves the collector as it was;
+pub page-in-keeps : (c : Collector) (s : List ℕ) → 0 < pageRefusal c s → pageIn c s .collector ≡ c
+page-in-keeps = collecting.refused-collector
+
+-- and one that is not is taken: "An accepted page answers "more wanted" or "complete"", by its own flag, and its
+-- components are after those that were gathered.
+pub page-in-taken : (c : Collector) (s : List ℕ) → numberOf (pageIn c s .answer) ≡ 0
+    → (pageIn c s .answer ≡ cond (headOf s .more) More Complete)
+    × (pageIn c s .collector ≡ added c (headOf s) (componentsOf s))
+page-in-taken = calls.page-in-taken
+
+-- "Layout out of a collector: 1."
+pub layout-out-number : (c : Collector) → IsFirst (layoutOut c .refusal) (layoutOutNumbers c)
+layout-out-number = calls.layout-out-number
+
+-- "Only a complete collector gives a layout": one with pages outstanding gives none.
+pub outstanding-none : (c : Collector) → c .complete ≡ false
+    → layoutOut c ≡ record { refusal = 1; layout = packed 0 [] }
+outstanding-none = collecting.outstanding-none
+
+-- "The reader takes any paging."
+pub any-paging : (g : ℕ) (ps : List (List ℕ)) → ArePages g 0 ps → somePages ps ≡ true → length (componentsIn ps) ≤ 16
+    → Keeps false (componentsIn ps)
+    → readPages newCollector ps
+    ≡ record {
+      answer = Complete;
+      collector = record { pages = length ps; complete = true; layout = packed g (componentsIn ps) };
+    }
+any-paging = anyhow.any-paging

@@ -232,7 +232,7 @@ back-says l o p =
     let h = inObject o p in (
       λ b. (
         λ e. let v = back-given l o p b (sym e) in
-        (v .0, v .1, lookup-gives l (v .0) b h .0 (back-looked-up l h b (sym e))),
+            (v .0, v .1, lookup-gives l (v .0) b h .0 (back-looked-up l h b (sym e))),
         λ q. sym (looked-up-back l b h (q .1) (lookup-gives l (q .0) b h .1 (q .2))),
       ),
       refused-exactly (backOf h l) (backNumbers l o p) (back-number l o p) (back-some-number l h),

@@ -86,8 +86,8 @@ module _ (pages : List ℕ) (b : ℕ) (home : List ℕ) where
     λ n h e. lookup-kept n h (lookup-first n h e),
     λ z. (
       λ n e. let found = homeOf b (hostComponents pages) in
-      let u = refuses-under n (lookupNumber pages b) found (e ∙ lookup-same pages z b) in
-      lookup-kept n (u .1) (u .0),
+          let u = refuses-under n (lookupNumber pages b) found (e ∙ lookup-same pages z b) in
+          lookup-kept n (u .1) (u .0),
       λ h e. lookup-found z (homeSays h) e,
     ),
   )
@@ -125,7 +125,7 @@ module _ (pages : List ℕ) (h : Home) (offset : ℕ) where
     λ n p e. back-kept n p (back-first n p e),
     λ z. (
       λ n e. let u = refuses-under n (backNumber pages h) (byteOf h (hostComponents pages)) (e ∙ back-same pages z h) in
-      back-kept n (u .1) (u .0),
+          back-kept n (u .1) (u .0),
       λ b e. back-found z b e,
     ),
   )
@@ -156,9 +156,11 @@ module _ (pages : List ℕ) (a m : ℕ) (room : List ℕ) (count : ℕ) where
   unfolding piecesAfter countAfter
   cut-given z k e =
       let many = cutCount a m (hostComponents pages) in
-      let g = answer-gives (cutNumber pages a m room) many k (sym (e ∙ cut-same pages z a m room)) in
-      (g .0, stored (sets room 0 (allNumbers (cutPieces a m (hostComponents pages)))) room (g .0),
-        stored many count (g .0) ∙ g .1)
+      let g = answer-gives (cutNumber pages a m room) many k (sym (e ∙ cut-same pages z a m room)) in (
+        g .0,
+        stored (sets room 0 (allNumbers (cutPieces a m (hostComponents pages)))) room (g .0),
+        stored many count (g .0) ∙ g .1,
+      )
 
   -- A request cut for C.
   pub c-cut :
@@ -174,8 +176,8 @@ module _ (pages : List ℕ) (a m : ℕ) (room : List ℕ) (count : ℕ) where
     λ n h e. cut-kept n h (cut-first n h e),
     λ z. (
       λ n e. let u = refuses-under n (cutNumber pages a m room) (cutCount a m (hostComponents pages))
-      (e ∙ cut-same pages z a m room) in
-      cut-kept n (u .1) (u .0),
+          (e ∙ cut-same pages z a m room) in
+          cut-kept n (u .1) (u .0),
       λ k e. cut-given z k e,
     ),
   )
@@ -241,8 +243,8 @@ module _ (pages : List ℕ) (k : ℕ) (buffer : List ℕ) (written : ℕ) where
     λ n h e. page-kept n h (page-first n h e),
     λ z. (
       λ n e. let l = hostLayout pages in
-      let u = out-refused n (outRefusal l k (length buffer)) (writtenPage l k) e in
-      page-kept n (u .1) (sym (page-same pages z k buffer) ∙ u .0),
+          let u = out-refused n (outRefusal l k (length buffer)) (writtenPage l k) e in
+          page-kept n (u .1) (sym (page-same pages z k buffer) ∙ u .0),
       λ m e. page-given z m e,
     ),
   )
@@ -309,7 +311,7 @@ module _ (pages : List ℕ) (offset mark : ℕ) (table grown answers : List ℕ)
         words-afterwards (hostLayout pages) offset mark table,
         stored (sets grown 0 (pagesOf (out .layout))) grown n,
         stored (sets answers 0 (bytes ∷ homeNumber (out .answer) ∷ [])) answers n
-        ∙ ap (λ (x : ℕ). sets answers 0 (bytes ∷ x ∷ [])) home,
+            ∙ ap (λ (x : ℕ). sets answers 0 (bytes ∷ x ∷ [])) home,
       )
 
   -- Growth for C.
@@ -331,7 +333,7 @@ module _ (pages : List ℕ) (offset mark : ℕ) (table grown answers : List ℕ)
       λ n e. grow-refused z n e,
       λ e q. let d : growing.Effect = record { home = e .home; changed = e .changed } in (
         λ h. grow-kept 20 (omega arith)
-        (grow-accepted z d q ∙ rw (lt-leb (length (pagesOf (out .layout))) (length grown) h)),
+            (grow-accepted z d q ∙ rw (lt-leb (length (pagesOf (out .layout))) (length grown) h)),
         λ h. grow-given z d q h,
       ),
     ),

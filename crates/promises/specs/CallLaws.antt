@@ -90,7 +90,7 @@ unfolding pageRefusal openRefusal contentRefusal ruleBroken
 page-in-number c s =
     let all = gathered c ++ componentsOf s in (
       refl,
-      refused-unless (collectorOk c) 1 (refused-if (c .complete) 2 (refused-unless (pageForm s) 3
+      refused-unless (collectorOk c) 1 (refused-if (c .layout .complete) 2 (refused-unless (pageForm s) 3
           (refused-unless (isNext (c .pages) (c .layout .generation) (headOf s)) 4
           (refused-above (c .layout .count + length (componentsOf s)) 16 5
           (refused-unless (every (fieldTests all)) 6
@@ -99,7 +99,8 @@ page-in-number c s =
     )
 
 pub layout-out-number : (c : Collector) → IsFirst (layoutOut c .refusal) (layoutOutNumbers c)
-layout-out-number c = (refl, numbers.layout-out-number c ∙ refused-unless-both (collectorOk c) (c .complete) 1 refl)
+layout-out-number c =
+    (refl, numbers.layout-out-number c ∙ refused-unless-both (collectorOk c) (c .layout .complete) 1 refl)
 
 pub page-out-number : (l : Layout) (k room : ℕ) → IsFirst (outRefusal l k room) (pageOutNumbers l k room)
 unfolding outRefusal writeRefusal

@@ -38,7 +38,7 @@ abbrev pub pageInNumbers : Collector → List ℕ → List Refusal
 pageInNumbers c s =
     let all = gathered c ++ componentsOf s in
     1 when not (collectorOk c)
-    ∷ 2 when c .complete
+    ∷ 2 when c .layout .complete
     ∷ 3 when not (pageForm s)
     ∷ 4 when not (isNext (c .pages) (c .layout .generation) (headOf s))
     ∷ 5 when ltb 16 (c .layout .count + length (componentsOf s))
@@ -49,7 +49,7 @@ pageInNumbers c s =
 
 -- "Layout out of a collector: 1."
 abbrev pub layoutOutNumbers : Collector → List Refusal
-layoutOutNumbers c = 1 when (not (collectorOk c) || not (c .complete)) ∷ []
+layoutOutNumbers c = 1 when (not (collectorOk c) || not (c .layout .complete)) ∷ []
 
 -- "Page out: 1, 4, 20", for page k and a buffer of `room` bytes.
 abbrev pub pageOutNumbers : Layout → ℕ → ℕ → List Refusal

@@ -4,6 +4,7 @@ pub mod NumberLaws
 pub mod LookupLaws
 pub mod GrowthLaws
 pub mod CallLaws
+pub mod OutstandingLaws
 pub mod HostCallLaws
 pub mod Promises
 pub mod PromisesOfNumbers

@@ -12,7 +12,7 @@
 -- `take_page` r ≡ pageIn c s .answer, of `page_out` r ≡ outAnswer .., and of lent memory that it is what is named here.
 use Prim.Native.Nat.{ℕ, _^_, _<_}
 use mathlib.Core.Path.{_≡_}
-use mathlib.Core.List.{List, []}
+use mathlib.Core.List.{List}
 use mathlib.Core.Logic.{_↔_}
 use mathlib.Core.Option.{some}
 use mathlib.Core.Bool.{true, false}
@@ -20,22 +20,25 @@ use lib.ListN.{length}
 use lib.Seq.{sets}
 use Rattle.layout.specs.declared.Object.{Object}
 use Rattle.layout.specs.declared.Layout.{Layout}
-use Rattle.layout.specs.Records.{view, packed}
+use Rattle.layout.specs.Records.{view, noLayout}
 use Rattle.layout.specs.Rules.{valid}
 use Rattle.collector.specs.declared.Collector.{Collector}
 use Rattle.collector.specs.Collector.{newCollector}
 use Rattle.collector.specs.Taking.{numberOf, pageIn}
 use Rattle.collector.specs.Giving.{layoutOut}
-use Rattle.collector.specs.CallLaws.{outstanding-none}
+use Rattle.paging.specs.declared.PageOut.the-variants as PageOut
 use Rattle.paging.specs.Paging.{writtenPage, outRefusal, outAnswer, outNumber, outBuffer}
 use Rattle.round_trip.specs.Pages.{readPages, completed, writtenPages, blanked, pagedByRule, AllBytes, InMemory}
 use Rattle.round_trip.specs.WriteThenRead as writing
 use Rattle.round_trip.specs.ReadThenWrite as reading
 use Rattle.mapping.specs.declared.ObjectHome.{ObjectHome}
+use Rattle.mapping.specs.declared.LookupOut.{LookupOut}
 use Rattle.mapping.specs.declared.LookupOut.the-variants as LookupOut
+use Rattle.mapping.specs.declared.BackOut.{BackOut}
 use Rattle.mapping.specs.declared.BackOut.the-variants as BackOut
+use Rattle.mapping.specs.declared.CutOut.{CutOut}
 use Rattle.mapping.specs.declared.CutOut.the-variants as CutOut
-use Rattle.mapping.specs.Homes.{inObject, homeOf, isGiven}
+use Rattle.mapping.specs.Homes.{Home, inObject, homeOf, isGiven}
 use Rattle.mapping.specs.Lookup.{homeSays, lookupSays, lookupOf}
 use Rattle.mapping.specs.Back.{backSays, backOf}
 use Rattle.mapping.specs.Cutting.{cutPieces, allNumbers, cutSays, cutOf}
@@ -46,6 +49,7 @@ use Rattle.growth_rules.specs.CallFacts.{Leaves, Changes}
 use Rattle.growth_rules.specs.Moments.{moments, Demand3}
 use Rattle.growth_rules.specs.Demand3.{demand3}
 use Rattle.growth.specs.declared.Effect.{Effect}
+use Rattle.growth.specs.declared.GrowOut.{GrowOut}
 use Rattle.growth.specs.declared.GrowOut.the-variants as GrowOut
 use Rattle.growth.specs.Answers.{growSays}
 use Rattle.worked_table.specs.Asking.{replies}
@@ -55,6 +59,7 @@ use Rattle.promises.specs.Calls.{pageInNumbers, pageOutNumbers, lookupNu
 use Rattle.promises.specs.Calls.{growthNumbers}
 use Rattle.promises.specs.NumberLaws as numbers
 use Rattle.promises.specs.CallLaws as calls
+use Rattle.promises.specs.OutstandingLaws as outstanding
 
 -- "Among its call's numbers each is given exactly if its condition holds and no lower one's does": that of none before
 -- it in the order of the call's list in `Calls`, which in document 01 is the order of size.
@@ -74,9 +79,17 @@ pub page-out : (l : Layout) (k : ℕ) (buffer : List ℕ)
     × (0 < n → outBuffer n (writtenPage l k) buffer ≡ buffer)
 page-out = calls.page-out-refused
 
--- "Only a complete collector gives a layout."
-pub outstanding : (c : Collector) → c .complete ≡ false → layoutOut c ≡ record { refusal = 1; layout = packed 0 [] }
-outstanding = outstanding-none
+-- 1, "or a layout is not complete". "Only a complete collector gives a layout." Whatever a collector with pages
+-- outstanding has gathered, every call that takes a layout refuses it by 1: it is never mapped, split or grown.
+pub outstanding-refused : (c : Collector) → c .layout .complete ≡ false
+    → ((b : ℕ) (r : LookupOut) → lookupSays r ≡ lookupOf b (c .layout) → r ≡ LookupOut.Refused 1)
+    × ((h : Home) (r : BackOut) → backSays r ≡ backOf h (c .layout) → r ≡ BackOut.Refused 1)
+    × ((a m n : ℕ) (r : CutOut) → cutSays r ≡ cutOf a m n (c .layout) → r ≡ CutOut.Refused 1)
+    × ((k n : ℕ) → outAnswer (outRefusal (c .layout) k n) (writtenPage (c .layout) k) ≡ PageOut.Refused 1)
+    × ((k : Call) (r : GrowOut) → growSays r ≡ growOf (c .layout) k .answer
+    → (r ≡ GrowOut.Refused 1) × Leaves (c .layout) k (growOf (c .layout) k))
+    × (layoutOut c ≡ record { refusal = 1; layout = noLayout })
+outstanding-refused = outstanding.refused
 
 -- "Each lookup answers a home, or a refusal number (1, 10, 11)."
 pub lookup : (l : Layout) (b : ℕ)

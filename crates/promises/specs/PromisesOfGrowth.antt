@@ -1,6 +1,6 @@
--- The promises on growth, beside those of `Promises`, which says how to read this. The contract of `moorsickle::grow` is
--- `growSays (r .out) ≡ growOf l k .answer`, and the layout and the table afterwards are those of `growOf l k`. What is
--- in quotes is document 01's.
+-- The promises on growth, beside those of `Promises`, which says how to read this. The contract of `moorsickle::grow`
+-- is `growSays (r .out) ≡ growOf l k .answer`, and the layout and the table afterwards are those of `growOf l k`. What
+-- is in quotes is document 01's.
 use Prim.Native.Nat.{ℕ, _+_, _≤_, _<_}
 use mathlib.Core.Path.{_≡_}
 use mathlib.Core.List.{List, map}

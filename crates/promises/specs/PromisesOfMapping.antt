@@ -1,5 +1,6 @@
 -- The promises on homes and the way back, beside `lookup` and `back` of `Promises`, which says how to read this. The
--- contract of `moorsickle::lookup` is `lookupSays r ≡ lookupOf b l`, that of `back` `backSays r ≡ backOf h l`. What is in quotes is document 01's.
+-- contract of `moorsickle::lookup` is `lookupSays r ≡ lookupOf b l`, that of `back` `backSays r ≡ backOf h l`. What is
+-- in quotes is document 01's.
 use Prim.Native.Nat.{ℕ, _^_, _<_}
 use mathlib.Core.Path.{_≡_}
 use mathlib.Core.List.{List}

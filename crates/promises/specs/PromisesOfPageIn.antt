@@ -3,10 +3,10 @@
 -- 01's.
 use Prim.Native.Nat.{ℕ, _≤_, _<_}
 use mathlib.Core.Path.{_≡_}
-use mathlib.Core.List.{List, []}
+use mathlib.Core.List.{List}
 use mathlib.Core.Bool.{true, false, cond}
 use lib.ListN.{length}
-use Rattle.layout.specs.Records.{packed}
+use Rattle.layout.specs.Records.{packed, noLayout}
 use Rattle.layout.specs.Facts.{Keeps}
 use Rattle.page.specs.Content.{headOf, componentsOf}
 use Rattle.collector.specs.declared.Collector.{Collector}
@@ -45,8 +45,8 @@ pub layout-out-number : (c : Collector) → IsFirst (layoutOut c .refusal) (layo
 layout-out-number = calls.layout-out-number
 
 -- "Only a complete collector gives a layout": one with pages outstanding gives none.
-pub outstanding-none : (c : Collector) → c .complete ≡ false
-    → layoutOut c ≡ record { refusal = 1; layout = packed 0 [] }
+pub outstanding-none : (c : Collector) → c .layout .complete ≡ false
+    → layoutOut c ≡ record { refusal = 1; layout = noLayout }
 outstanding-none = collecting.outstanding-none
 
 -- "The reader takes any paging."
@@ -55,6 +55,6 @@ pub any-paging : (g : ℕ) (ps : List (List ℕ)) → ArePages g 0 ps → somePa
     → readPages newCollector ps
     ≡ record {
       answer = Complete;
-      collector = record { pages = length ps; complete = true; layout = packed g (componentsIn ps) };
+      collector = record { pages = length ps; layout = packed g (componentsIn ps) };
     }
 any-paging = anyhow.any-paging

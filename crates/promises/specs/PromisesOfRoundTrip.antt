@@ -24,7 +24,7 @@ pub written-read-back : (l : Layout) → valid l ≡ true → InMemory l
     → readPages newCollector (writtenPages l)
     ≡ record {
       answer = Complete;
-      collector = record { pages = length (writtenPages l); complete = true; layout = blanked l };
+      collector = record { pages = length (writtenPages l); layout = blanked l };
     }
 written-read-back = writing.written-read-back
 

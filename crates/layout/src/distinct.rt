@@ -111,7 +111,7 @@ fn repeat_by_keys(targets: &[u32], numbers: &[u64], keys: &[u16], n: usize, from
     later
 }
 
-// The same, if the keys are not known yet: `keys` has room for them.
+// The same, if the keys are not known yet: `keys` has room for them, and they are stored in its first places.
 pub fn object_repeat(
     targets: &[u32],
     numbers: &[u64],
@@ -124,8 +124,9 @@ pub fn object_repeat(
         × (from ≤ n)
         × (every (take from (fresh sameObject (take n (named (now targets) (now numbers))))) ≡ true)
         × (n ≤ length (now keys)) ⌝ }
-    ensures { λ r. ⌜ r
-        ≡ firstFailed (fresh sameObject (take n (named (now (targets .entry)) (now (numbers .entry))))) ⌝ }
+    ensures { λ r. let os = take n (named (now (targets .entry)) (now (numbers .entry))) in
+        ⌜ (r ≡ firstFailed (fresh sameObject os))
+        × (now (keys .exit) ≡ sets (now (keys .entry)) 0 (keysOf os)) ⌝ }
 {
     put_keys(targets, numbers, n, keys);
     repeat_by_keys(targets, numbers, keys, n, from)

@@ -17,7 +17,7 @@ returns c =
     let os = recordsIn (componentsAt (now (s .args .s)) (take (s .args .n) (now (s .args .places)))) in
     scanned (replicate 256 0) (replicate 256 0) (q .last .1 .1 .1 .0) (q .last .1 .1 .1 .1 .0) os (q .result)
     (c .before .object-repeat .result) (s .pre .2) (s .pre .2) (q .ensures .0) (q .ensures .1) (q .ensures .2)
-    (c .before .object-repeat .ensures)
+    (c .before .object-repeat .ensures .0)
 
 pub many-differ-spec : {M : Type 1} → statement M
 many-differ-spec =

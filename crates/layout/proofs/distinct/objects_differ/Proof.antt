@@ -55,7 +55,7 @@ returns c =
     let two = second .put-all2 in
     let one = first .put-all in
     let l = s .args .l in
-    let r = c .before .object-repeat .ensures
+    let r = c .before .object-repeat .ensures .0
     ∙ ap (λ (os : List Object). firstFailed (fresh sameObject os)) (rows second) in
     let n = gathered-length (l .components) (s .args .from) (l .count) (one .result) (two .result) (s .pre .0) (one .ensures .0) (two .ensures .0)
     ∙ sym (length-along (unseen sameObject) seenWith _ (recordsIn (view l))) in

@@ -1,5 +1,6 @@
 pub mod Texts
 pub mod Listing
+pub mod Room
 pub mod DecimalLaws
 pub mod DecimalValue
 pub mod FirstBytes

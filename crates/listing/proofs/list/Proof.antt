@@ -1,56 +1,32 @@
--- `listing::list` meets its contract: the listing is that of the reading, and a reading that is not refused gives
--- a valid layout.
-use Prim.Native.Nat.{ℕ, _≤_}
-use mathlib.Core.Path.{_≡_, ap, sym, _∙_}
-use mathlib.Core.List.{List}
-use mathlib.Core.Bool.{true}
+-- `listing::list` meets its contract: with room for every listing it is written straight into the lent bytes; else it is
+-- written into a local array, and of that as much is copied as there is room for.
+use Prim.Native.Nat.{ℕ}
 use native.Mathlib.Omega.{arith}
+use lib.ListN.{replicate, length-replicate}
 use denote.Ref.{now}
-use borrow.Author.Tests.{eq-eqb, ne-eqb}
-use Rattle.layout.specs.Rules.{valid}
-use Rattle.layout.specs.FactLaws.{valid-facts}
-use Rattle.collector.specs.declared.Reading.{Reading}
-use Rattle.collector.specs.Runs.{readRun, listedCut}
-use Rattle.collector.specs.ValidRuns.{run-valid}
 use Rattle.listing.specs.Listing.{listingOf}
+use Rattle.listing.specs.Room.{copied}
 use borrow.Author.Needs.{needs}
 use Rattle.listing.proofs.list.Statement.{statement}
 use Rattle.listing.proofs.list.Tie as tie
 
-returns : tie.Need-returns
-unfolding listingOf
-returns c =
-    let put = c .before .before in
-    let test = put .before .before in
-    let read = test .before .before in
-    let r = read .read-listed .result in
-    rw (← read .read-listed .ensures, ne-eqb (r .refusal) 0 (test .if1 .taken))
-    (put .put-refused .ensures .0, omega arith)
-
--- A reading that is not refused has at most 16 components.
-few : (r : Reading) (s : List ℕ) → r ≡ readRun listedCut s → r .refusal ≡ 0 → r .layout .count ≤ 16
-few r s e z =
-    let y : readRun listedCut s .refusal ≡ 0 = ap (λ (x : Reading). x .refusal) (sym e) ∙ z in
-    let v : valid (r .layout) ≡ true = ap (λ (x : Reading). valid (x .layout)) e ∙ run-valid listedCut s y in
-    valid-facts (r .layout) v .few
-
-put-layout-requires : tie.Need-put-layout-requires
-put-layout-requires c κs =
-    let read = c .before .before .before .before in
-    let a = read .before .before .before .args in
-    let r = read .read-listed in
-    (few (r .result) (now (a .input)) (r .ensures) (c .before .before .if1 .left), omega arith)
-
+-- `put` is the state after the copy, `wrote` that after the local array was written, and `s` the start.
 returns-2 : tie.Need-returns-2
-unfolding listingOf
 returns-2 c =
     let put = c .before .before in
-    let test = put .before .before .before in
-    let read = test .before .before in
-    let r = read .read-listed .result in
-    rw (← read .read-listed .ensures, eq-eqb (r .refusal) 0 (test .if1 .left)) (put .put-layout .ensures)
+    let wrote = put .before .before .before .before in
+    let s = wrote .before .before .before .before .before in
+    let q = wrote .put-listing2 in (
+      (
+        q .ensures .0 .0,
+        copied (replicate 2448 0) _ (now (s .args .out)) _ (listingOf (now (s .args .input))) (q .result)
+            (omega (arith, length-replicate {A = ℕ} 2448 0, q .ensures .1)) (q .ensures .0 .0) (q .ensures .0 .1)
+            (put .put-first .ensures),
+      ),
+      q .ensures .1,
+    )
 
 pub list-spec : {M : Type 1} → statement M
 list-spec =
-    tie.close (tie.spec (λ c κs. search needs) (λ c κs. search needs) (λ c. search needs) returns put-layout-requires
-    (λ c. search needs) returns-2)
+    tie.close (tie.spec (λ c κs. search needs) (λ c. search needs) (λ c. c .before .before .put-listing .ensures)
+    (λ c. search needs) (λ c κs. search needs) (λ c. search needs) (λ c κs. search needs) (λ c. search needs) returns-2)

@@ -15,7 +15,7 @@ use Rattle.layout.specs.Rules.{valid}
 use Rattle.page.specs.Content.{componentAt}
 use Rattle.in_place.specs.Places.{componentsAt, ValidAt}
 use Rattle.placed_run.specs.declared.Found.{Found}
-use Rattle.placed_run.specs.Found.{Finds}
+use Rattle.placed_run.specs.Found.{Finds, finds-number}
 use Rattle.mapping.specs.Answers.{Answer, answer}
 use Rattle.gateway.specs.Host.{hostReading, hostLayout, hostComponents, readingFirst, lentAfter}
 use Rattle.gateway.specs.HostLaws.{host-valid, reading-number, own-number, lent-stays}
@@ -29,7 +29,7 @@ module _ {pages : List ℕ} {r : Found} {places : List ℕ} (f : Finds pages r p
   pub found-refused : (r .refusal ≡ 0 → ⊥) → Refused pages (r .refusal)
   found-refused h =
       let number : (own : ℕ) → r .refusal ≡ readingFirst pages own =
-      λ own. f .refusal ∙ reading-number pages own (λ z. h (f .refusal ∙ z)) in
+      λ own. finds-number f ∙ reading-number pages own (λ z. h (finds-number f ∙ z)) in
       record {
         number = number;
         lent = λ own new lent. lent-stays (readingFirst pages own) new lent (λ z. h (number own ∙ z));
@@ -38,7 +38,7 @@ module _ {pages : List ℕ} {r : Found} {places : List ℕ} (f : Finds pages r p
   module _ (z : r .refusal ≡ 0) where
     -- The reading gives a layout.
     pub found-read : hostReading pages .refusal ≡ 0
-    found-read = sym (f .refusal) ∙ z
+    found-read = sym (finds-number f) ∙ z
 
     -- The places found may be handed on: the components at them are those of a valid layout.
     pub found-places : ValidAt pages (r .count) places × (length places ≡ 16)

@@ -23,7 +23,7 @@ pub struct Progress {
 }
 
 // What reading gives: 0, the generation, and the number of components, whose places then are in the first positions;
-// or the number of the refusal.
+// or the number of the refusal, and 0 and 0.
 pub struct Found {
     pub refusal: u8,
     pub generation: u32,
@@ -146,6 +146,9 @@ fn end_refusal(s: &[u8], p: Progress) -> u8
 }
 
 // Reads the pages. 1 to 7 are asked page by page; distinctness, 8, once at the end, of the pages that were taken.
+// The array of places is scratch memory, which no public call shows. What is said of it at exit: it has 16 places, and
+// if the reading is not refused, the first of them are the places of the components. The other places, and all of them
+// if the reading is refused, are left open.
 pub fn read(s: &[u8], places: &mut [usize; 16]) -> Found
     requires { ⌜ length (now places) ≡ 16 ⌝ }
     ensures { λ r. ⌜ Finds (now (s .entry)) r (now (places .exit)) ⌝ }
@@ -158,8 +161,16 @@ pub fn read(s: &[u8], places: &mut [usize; 16]) -> Found
             count: 0,
         };
     }
+    let refusal = end_refusal(s, p);
+    if refusal != 0 {
+        return Found {
+            refusal: refusal,
+            generation: 0,
+            count: 0,
+        };
+    }
     Found {
-        refusal: end_refusal(s, p),
+        refusal: 0,
         generation: p.generation,
         count: p.count,
     }

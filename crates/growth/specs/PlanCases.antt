@@ -1,11 +1,12 @@
 -- The plans, case by case, as the code comes to them; and the plan of a call on a valid layout.
-use Prim.Native.Nat.{ℕ, zero, suc, _+_, _≤_, _<_}
+use Prim.Native.Nat.{ℕ, zero, suc, _+_, _-_, _≤_, _<_}
 use mathlib.Core.Path.{_≡_, refl, sym, ap, _∙_, subst}
 use mathlib.Core.List.{List, [], _∷_, _++_}
 use mathlib.Core.Bool.{Bool, true, false, cond, _||_}
 use native.Mathlib.Omega.{arith}
 use lib.ListN.{length, getD, take, drop, length-take, take-append-drop}
 use lib.Seq.{split-at, drop-cons, length-take-le, slice, getD-take}
+use Rattle.lists.specs.Bools.{bool-cases}
 use Rattle.layout.specs.declared.Component.{Component}
 use Rattle.layout.specs.declared.Layout.{Layout}
 use Rattle.layout.specs.Records.{noComponent, idsOf, recordsOf, view}
@@ -18,10 +19,10 @@ use Rattle.free_table.specs.Table.{anyLow}
 use Rattle.growth_rules.specs.Parts.{withExtent, freshId}
 use Rattle.growth_rules.specs.Steps.{Call, Step, heldStep, extensionStep}
 use Rattle.growth_rules.specs.Growing.{stepOf}
-use Rattle.growth_rules.specs.StepLaws.{stepAfterAll, held-step, extension-step}
+use Rattle.growth_rules.specs.StepLaws.{stepAfterAll, held-step, extension-step, extension-after}
 use Rattle.growth.specs.declared.Plan.{Plan}
 use Rattle.growth.specs.Plans.{planSays, noPlan, replacing, granting, choosingPlan, heldPlan, followPlan, spillPlan}
-use Rattle.growth.specs.Plans.{lowPlan, extensionPlan, PlanFor}
+use Rattle.growth.specs.Plans.{lowPlan, extensionPlan, planAt, PlanFor}
 use Rattle.growth.specs.PlanLaws.{Means, held-means, extension-means}
 
 -- A component of the first n of an array has at most 16 stripes, if the rule of the fields holds of them.
@@ -95,6 +96,23 @@ module _ (mark : ℕ) (rs : List TargetRecord) where
     unfolding extensionPlan
     extension-low e f = ap extendBy e ∙ ap initBy f
 
+  -- The component at a position is an extension, or not.
+  module _ (i : ℕ) (cs : List Component) where
+    abbrev atBy : Bool → Plan
+    atBy t =
+        cond t (extensionPlan mark rs (freshId (idsOf cs)) (i - 1) (drop (i - 1) cs))
+        (heldPlan mark rs i (getD cs i noComponent))
+
+    pub at-extension : getD cs i noComponent .extension ≡ true
+        → planAt mark rs i cs ≡ extensionPlan mark rs (freshId (idsOf cs)) (i - 1) (drop (i - 1) cs)
+    unfolding planAt
+    at-extension e = ap atBy e
+
+    pub at-other : getD cs i noComponent .extension ≡ false
+        → planAt mark rs i cs ≡ heldPlan mark rs i (getD cs i noComponent)
+    unfolding planAt
+    at-other e = ap atBy e
+
 -- The components after a position keep the rule of the fields.
 fields-drop : (j : ℕ) (cs : List Component) → Fields cs → Fields (drop j cs)
 fields-drop zero cs f = f
@@ -121,7 +139,7 @@ module _ (l : Layout) (v : Valid l) (k : Call) (i : ℕ) (at : i ≡ holderOf (k
       }
 
   -- It is no extension.
-  pub held-for : (c : Component) → getD cs i noComponent ≡ c → c .extension ≡ false
+  held-for : (c : Component) → getD cs i noComponent ≡ c → c .extension ≡ false
       → PlanFor l k (heldPlan (k .mark) (k .table) i c)
   held-for c same e =
       let rest = drop (suc i) cs in
@@ -134,7 +152,7 @@ module _ (l : Layout) (v : Valid l) (k : Call) (i : ℕ) (at : i ≡ holderOf (k
       (rw (← same) (sym (held-step k new noComponent cs i (sym at) below ext)))
 
   -- It is an extension.
-  pub extension-for : (j : ℕ) → i ≡ suc j → getD cs i noComponent .extension ≡ true
+  extension-for : (j : ℕ) → i ≡ suc j → getD cs i noComponent .extension ≡ true
       → PlanFor l k (extensionPlan (k .mark) (k .table) (freshId (idsOf cs)) j (slice j (l .count) (l .components)))
   extension-for j next e =
       let c = getD cs j noComponent in
@@ -152,3 +170,13 @@ module _ (l : Layout) (v : Valid l) (k : Call) (i : ℕ) (at : i ≡ holderOf (k
       (extension-means k (take j cs) j (sym (length-take-le j cs (omega arith))) c x new rest few
       (λ n after q. kind-few ((rw q at rest-fields) .1)))
       (sym (extension-step k new noComponent cs j (sym at ∙ next) there (rw (← next) e))))
+
+  -- Either way the plan for the component at that position is the plan of the call.
+  pub plan-holder : PlanFor l k (planAt (k .mark) (k .table) i cs)
+  plan-holder =
+      let c = getD cs i noComponent in
+      bool-cases (c .extension)
+      (λ e.
+      let after = extension-after false 0 cs noComponent i (v .keeps .linked) below e in
+      rw (at-extension (k .mark) (k .table) i cs e) (extension-for (i - 1) (omega arith) e))
+      (λ e. rw (at-other (k .mark) (k .table) i cs e) (held-for c refl e))

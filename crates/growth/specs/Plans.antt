@@ -1,18 +1,18 @@
 -- The plans that the code makes of a step, and what a plan says of the components of a layout.
-use Prim.Native.Nat.{ℕ, _+_, _≤_}
+use Prim.Native.Nat.{ℕ, _+_, _-_, _≤_}
 use mathlib.Core.Path.{_≡_}
 use mathlib.Core.List.{List, [], _∷_, _++_}
 use mathlib.Core.Bool.{Bool, true, false, not, cond, _||_}
 use lib.Dec.{ltb, eqb}
-use lib.ListN.{length, take, drop}
+use lib.ListN.{length, take, drop, getD}
 use Rattle.layout.specs.declared.Object.{Object}
 use Rattle.layout.specs.declared.Component.{Component}
 use Rattle.layout.specs.declared.Layout.{Layout}
-use Rattle.layout.specs.Records.{noComponent, recordsOf, recordsIn, view}
+use Rattle.layout.specs.Records.{noComponent, recordsOf, recordsIn, idsOf, view}
 use Rattle.free_table.specs.declared.TargetRecord.{TargetRecord}
 use Rattle.free_table.specs.Table.{anyLow, usable}
 use Rattle.free_table.specs.Choosing.{chosen}
-use Rattle.growth_rules.specs.Parts.{withExtent, madeInit, repeatBase, reach}
+use Rattle.growth_rules.specs.Parts.{withExtent, madeInit, repeatBase, reach, freshId}
 use Rattle.growth_rules.specs.Steps.{Call, Step, stays, lacks, changes}
 use Rattle.growth_rules.specs.Growing.{meets, stepOf}
 use Rattle.growth.specs.declared.Plan.{Plan}
@@ -141,6 +141,12 @@ module _ (mark : ℕ) (rs : List TargetRecord) where
   extensionPlan new j (c ∷ x ∷ cs) =
       cond (c .init) (cond (anyLow mark rs (recordsOf c)) (lowPlan new j c x cs) (granting j 2 c x (x .begin)))
       (choosingPlan (granting j 2 c x (x .begin)))
+
+  -- The component at position i holds the offset, an extension or not. No extension is first in a valid layout.
+  unfoldable pub planAt : ℕ → List Component → Plan
+  planAt i cs =
+      let c = getD cs i noComponent in
+      cond (c .extension) (extensionPlan (freshId (idsOf cs)) (i - 1) (drop (i - 1) cs)) (heldPlan i c)
 
 -- The plan is that of the step of a call, its components are some of the layout, and it has chosen at most 16 object records,
 -- as many as it says.

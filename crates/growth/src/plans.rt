@@ -6,18 +6,16 @@ use layout::Component;
 use layout::Layout;
 ghost use mathlib.Core.Path.{_≡_};
 ghost use mathlib.Core.Bool.{true};
-ghost use Prim.Native.Nat.{ℕ, _+_, _<_, _≤_};
+ghost use Prim.Native.Nat.{_+_, _<_, _≤_};
 ghost use lib.ListN.{take};
 ghost use lib.Seq.{slice};
 ghost use Rattle.layout.specs.Records.{idsOf, view};
 ghost use Rattle.layout.specs.Rules.{valid};
-ghost use Rattle.layout.specs.Holder.{holderOf};
 ghost use Rattle.layout.specs.Facts.{Fields};
 ghost use Rattle.free_table.specs.Table.{tableOf, tableOk};
 ghost use Rattle.growth_rules.specs.Parts.{freshId};
-ghost use Rattle.growth.specs.Answers.{callOf};
 ghost use Rattle.growth.specs.Plans.{noPlan, replacing, granting, choosingPlan, heldPlan, followPlan, spillPlan};
-ghost use Rattle.growth.specs.Plans.{repeatPlan, lowPlan, extensionPlan, PlanFor};
+ghost use Rattle.growth.specs.Plans.{repeatPlan, lowPlan, extensionPlan, planAt};
 
 // The plan that changes nothing; `lacks` says that this is for want of usable targets. What the component is means
 // nothing.
@@ -193,10 +191,11 @@ fn extension_plan(list: [Component; 16], n: usize, j: usize, mark: u64, t: Table
     low_plan(list, n, j, c, x, mark, t)
 }
 
-// The plan of the step for the component at position i, which holds the offset.
+// The plan of the step for the component at position i. If this component holds the offset, it is the plan of the call
+// (`plan-holder`).
 pub fn plan_at(l: Layout, i: usize, mark: u64, t: Table) -> Plan
     requires { ⌜ (valid l ≡ true) × (i < l .count) × (tableOk (tableOf t) ≡ true) ⌝ }
-    ensures { λ r. ⌜ ((offset : ℕ) → i ≡ holderOf offset (view l) → PlanFor l (callOf offset mark t) r) ⌝ }
+    ensures { λ r. ⌜ r ≡ planAt mark (tableOf t) i (view l) ⌝ }
 {
     let list = l.components;
     let c = list[i];

@@ -16,6 +16,7 @@ use Rattle.growth_rules.specs.Growing.{Outcome}
 use Rattle.growth_rules.specs.StepLaws.{past-holder}
 use Rattle.growth.specs.Answers.{callOf, GrownSays}
 use Rattle.growth.specs.OutcomeLaws.{grow-past, grow-bad-table, grow-steps}
+use Rattle.growth.specs.PlanCases.{plan-holder}
 use Rattle.growth.proofs.grow_valid.Statement.{statement}
 use Rattle.growth.proofs.grow_valid.Tie as tie
 
@@ -62,10 +63,13 @@ plan-at-requires c κs = (c .before .before .before .before .before .pre, c .bef
 
 of-step-requires : tie.Need-of-step-requires
 of-step-requires c κs =
-    let s = c .before .before .before .before .before .before in (
+    let s = c .before .before .before .before .before .before in
+    let at = c .before .before .before .before .before .holder in (
       s .pre,
       good (c .before),
-      c .plan-at .ensures (s .args .offset) (c .before .before .before .before .before .holder .ensures .0),
+      rw (c .plan-at .ensures)
+          (plan-holder (s .args .l) (facts s) (call s) (at .result) (at .ensures .0)
+          (c .before .before .before .if1 .left)),
     )
 
 returns-3 : tie.Need-returns-3

@@ -1,6 +1,6 @@
--- `growth::plans::plan_at` meets its contract: the component that holds the offset is an extension, or not.
-use Prim.Native.Nat.{suc, _-_, _<_}
-use mathlib.Core.Path.{_≡_, ap, _∙_}
+-- `growth::plans::plan_at` meets its contract: the component at the position is an extension, or not.
+use Prim.Native.Nat.{_<_}
+use mathlib.Core.Path.{_≡_, sym, ap, _∙_}
 use mathlib.Core.Bool.{true}
 use native.Mathlib.Omega.{arith}
 use lib.ListN.{getD}
@@ -11,16 +11,17 @@ use Rattle.layout.specs.Facts.{Valid}
 use Rattle.layout.specs.FactLaws.{valid-facts, kind-few}
 use Rattle.layout.specs.ArrayLaws.{component-at, component-kind}
 use Rattle.layout.proofs.Unread.{unread}
+use Rattle.free_table.specs.Table.{tableOf}
 use Rattle.growth_rules.specs.StepLaws.{extension-after}
-use Rattle.growth.specs.Answers.{callOf}
-use Rattle.growth.specs.PlanCases.{held-for, extension-for}
+use Rattle.growth.specs.Plans.{heldPlan}
+use Rattle.growth.specs.PlanCases.{at-extension, at-other}
 use Rattle.growth.proofs.plans.plan_at.Statement.{statement}
 use Rattle.growth.proofs.plans.plan_at.Tie as tie
 
 facts : (c : tie.Start) → Valid (c .args .l)
 facts c = valid-facts (c .args .l) (c .pre .0)
 
--- The component that holds the offset is an extension,
+-- The component at the position is an extension,
 is-extension : (c : tie.Else1) → let a = c .before .before .before .before .args in
     getD (view (a .l)) (a .i) noComponent .extension ≡ true
 is-extension c =
@@ -47,9 +48,10 @@ returns c =
     let s = c .before .before .before .before .before in
     let a = s .args in
     let x = getD (a .l .components) (a .i) unread in
-    λ offset at. rw (c .held-plan .ensures)
-    (held-for (a .l) (facts s) (callOf offset (a .mark) (a .t)) (a .i) at (s .pre .1) x
-    (component-at (a .l) (facts s) unread (a .i) (s .pre .1)) (not-true (x .extension) (c .before .if1 .taken)))
+    let same = component-at (a .l) (facts s) unread (a .i) (s .pre .1) in
+    c .held-plan .ensures ∙ ap (heldPlan (a .mark) (tableOf (a .t)) (a .i)) (sym same)
+    ∙ sym (at-other (a .mark) (tableOf (a .t)) (a .i) (view (a .l))
+    (ap (λ (d : Component). d .extension) same ∙ not-true (x .extension) (c .before .if1 .taken)))
 
 extension-plan-requires : tie.Need-extension-plan-requires
 extension-plan-requires c κs =
@@ -61,9 +63,8 @@ returns-2 : tie.Need-returns-2
 returns-2 c =
     let s = c .before .before .before .before .before in
     let a = s .args in
-    let next : a .i ≡ suc (a .i - 1) = omega (arith, not-first (c .before)) in
-    λ offset at. rw (c .extension-plan .ensures)
-    (extension-for (a .l) (facts s) (callOf offset (a .mark) (a .t)) (a .i) at (s .pre .1) (a .i - 1) next (is-extension (c .before)))
+    c .extension-plan .ensures
+    ∙ sym (at-extension (a .mark) (tableOf (a .t)) (a .i) (view (a .l)) (is-extension (c .before)))
 
 pub plan-at-spec : {M : Type 1} → statement M
 plan-at-spec =

@@ -3,6 +3,7 @@ pub mod Steps
 pub mod Growing
 pub mod Moments
 pub mod CallFacts
+pub mod Readings
 pub mod StepLaws
 pub mod PartLaws
 pub mod Replacing
@@ -12,6 +13,7 @@ pub mod PartReplacing
 pub mod StepReplacing
 pub mod CallCases
 pub mod ValidityLaws
+pub mod ReadingLaws
 pub mod MomentLaws
 pub mod Demand3
 pub mod CallLaws

@@ -19,11 +19,13 @@ use Rattle.layout.specs.Holder.{covers, lastEnd}
 use Rattle.layout.specs.HolderLaws.{covers-last}
 use Rattle.mapping.specs.Homes.{homeIn, readingOf}
 use Rattle.mapping.specs.declared.Piece.{Piece}
-use Rattle.mapping.specs.Cutting.{pieceFrom}
+use Rattle.mapping.specs.Cutting.{cutPieces}
 use Rattle.growth_rules.specs.Steps.{Call}
 use Rattle.growth_rules.specs.Growing.{Outcome}
 use Rattle.growth_rules.specs.Moments.{afterCall, moments}
 use Rattle.growth_rules.specs.Parts.{NoExtent}
+use Rattle.growth_rules.specs.Readings.{bytePiece}
+use Rattle.growth_rules.specs.ReadingLaws.{byte-pieces}
 use Rattle.growth_rules.specs.CallFacts.{Grown}
 use Rattle.growth_rules.specs.CallCases.{Called, refused, unchanged, grown, call-cases}
 use Rattle.growth_rules.specs.ValidityLaws.{step-changed, changed-valid}
@@ -33,11 +35,7 @@ pub home-no-extent : NoExtent homeIn
 unfolding homeIn
 home-no-extent begin end c b = refl
 
--- The piece of a single byte, which tells the component's id, the stripe and the object byte.
-abbrev pub bytePiece : Component → ℕ → Piece
-bytePiece c b = pieceFrom (c .id) (c .«stripe_size») (c .«stripe_count») b (b + 1)
-
--- It does not look at the component's extent either: by `reading-kept`, growth keeps it.
+-- The piece of a single byte by a component does not look at it either.
 pub piece-no-extent : NoExtent bytePiece
 piece-no-extent begin end c b = refl
 
@@ -112,6 +110,14 @@ module _ (l : Layout) (ks : List Call) (v : valid l ≡ true) where
       → (b : ℕ) (a : A) → readingOf read b (view (getD (moments l ks) i l)) ≡ some a
       → readingOf read b (view (getD (moments l ks) j l)) ≡ some a
   reading-kept read n i j le h b a e = moment-follows l l ks v i j le h .readings read n b a e
+
+  -- So the one piece of a single byte that lies in an init component stays. Of longer requests nothing is said here.
+  pub byte-piece-kept : (i j : ℕ) → i ≤ j → j < length (moments l ks) → (b : ℕ) (p : Piece)
+      → readingOf bytePiece b (view (getD (moments l ks) i l)) ≡ some p
+      → cutPieces b 1 (view (getD (moments l ks) j l)) ≡ p ∷ []
+  byte-piece-kept i j le h b p e =
+      byte-pieces (valid-facts (getD (moments l ks) j l) (moment-valid j h) .keeps) b p
+      (reading-kept bytePiece piece-no-extent i j le h b p e)
 
   -- Every moment covers the bytes that the start covers.
   pub moment-covers : (j : ℕ) → j < length (moments l ks) → (b : ℕ)

@@ -1,5 +1,6 @@
 pub mod Host
 pub mod HostLaws
+pub mod LentAnswers
 pub mod FoundLaws
 pub mod HostGrowth
 pub mod LentWords

@@ -5,22 +5,17 @@ use mapping::CutOut;
 use mapping::LookupOut;
 use paging::PageOut;
 ghost use mathlib.Core.Path.{_≡_};
-ghost use mathlib.Core.List.{List};
-ghost use mathlib.Core.Option.{Option};
 ghost use Prim.Native.Nat.{ℕ};
-ghost use lib.ListN.{length};
-ghost use Rattle.mapping.specs.Answers.{answer};
-ghost use Rattle.mapping.specs.Homes.{Home};
 ghost use Rattle.mapping.specs.Lookup.{lookupSays};
 ghost use Rattle.mapping.specs.Back.{backSays};
 ghost use Rattle.mapping.specs.Cutting.{cutSays};
-ghost use Rattle.paging.specs.Paging.{outAnswer};
-ghost use Rattle.gateway.specs.Host.{lentAfter, homeNumbers};
+ghost use Rattle.gateway.specs.Host.{homeNumbers};
+ghost use Rattle.gateway.specs.LentAnswers.{numberIn, storedIn, writtenSays};
 
 // Stores the target, the number and the byte of a home that was found.
 pub fn put_home(found: LookupOut, home: &mut [u64; 3]) -> u32
-    ensures { λ r. ⌜ ((n : ℕ) (h : Option Home) → lookupSays found ≡ answer n h →
-        (r ≡ n) × (now (home .exit) ≡ lentAfter n (homeNumbers h) (now (home .entry)))) ⌝ }
+    ensures { λ r. ⌜ (r ≡ numberIn (lookupSays found))
+        × (now (home .exit) ≡ storedIn homeNumbers (lookupSays found) (now (home .entry))) ⌝ }
 {
     match found {
         LookupOut::Refused(n) => n as u32,
@@ -33,8 +28,8 @@ pub fn put_home(found: LookupOut, home: &mut [u64; 3]) -> u32
 
 // Stores a file byte that was found back.
 pub fn put_offset(found: BackOut, offset: &mut u64) -> u32
-    ensures { λ r. ⌜ ((n b : ℕ) → backSays found ≡ answer n b →
-        (r ≡ n) × (now (offset .exit) ≡ lentAfter n b (now (offset .entry)))) ⌝ }
+    ensures { λ r. ⌜ (r ≡ numberIn (backSays found))
+        × (now (offset .exit) ≡ storedIn (λ (b : ℕ). b) (backSays found) (now (offset .entry))) ⌝ }
 {
     match found {
         BackOut::Refused(n) => n as u32,
@@ -47,8 +42,8 @@ pub fn put_offset(found: BackOut, offset: &mut u64) -> u32
 
 // Stores the number of the pieces of a request that was cut.
 pub fn put_count(cut: CutOut, count: &mut u64) -> u32
-    ensures { λ r. ⌜ ((n pieces : ℕ) → cutSays cut ≡ answer n pieces →
-        (r ≡ n) × (now (count .exit) ≡ lentAfter n pieces (now (count .entry)))) ⌝ }
+    ensures { λ r. ⌜ (r ≡ numberIn (cutSays cut))
+        × (now (count .exit) ≡ storedIn (λ (pieces : ℕ). pieces) (cutSays cut) (now (count .entry))) ⌝ }
 {
     match cut {
         CutOut::Refused(n) => n as u32,
@@ -61,8 +56,8 @@ pub fn put_count(cut: CutOut, count: &mut u64) -> u32
 
 // Stores the number of bytes of a page that was written.
 pub fn put_written(out: PageOut, written: &mut u64) -> u32
-    ensures { λ r. ⌜ ((n : ℕ) (page : List ℕ) → out ≡ outAnswer n page →
-        (r ≡ n) × (now (written .exit) ≡ lentAfter n (length page) (now (written .entry)))) ⌝ }
+    ensures { λ r. ⌜ (r ≡ numberIn (writtenSays out))
+        × (now (written .exit) ≡ storedIn (λ (bytes : ℕ). bytes) (writtenSays out) (now (written .entry))) ⌝ }
 {
     match out {
         PageOut::Refused(n) => n as u32,

@@ -1,11 +1,14 @@
 -- `gateway::moorsickle_back` meets its contract: a refusal of the reading comes first; else what `back` says of the
 -- components at the places found is stored.
+use Prim.Native.Nat.{ℕ}
 use native.Mathlib.Omega.{arith}
+use denote.Ref.{now}
 use borrow.Author.Needs.{needs}
 use Rattle.layout.specs.Rows.{objectOf}
 use Rattle.mapping.specs.Homes.{inObject}
-use Rattle.mapping.specs.Back.{backRefusal, byteOf, backIn}
+use Rattle.mapping.specs.Back.{backRefusal, byteOf, backIn, backSays}
 use Rattle.gateway.specs.Host.{backNumber, offsetAfter}
+use Rattle.gateway.specs.LentAnswers.{stored-as}
 use Rattle.gateway.specs.FoundLaws.{found-refused, found-places, found-answer}
 use Rattle.gateway.proofs.moorsickle_back.Statement.{statement}
 use Rattle.gateway.proofs.moorsickle_back.Tie as tie
@@ -21,8 +24,9 @@ returns-2 c =
     let read = c .before .before .before .before .before .before in
     let a = read .before .before .before .args in
     let home = inObject (objectOf (a .target) (a .number)) (a .byte) in
-    c .put-offset .ensures _ _
-    (found-answer (read .read .ensures) (omega arith) (backRefusal home) (byteOf home) (c .before .before .back .ensures))
+    let found = c .before .before .back in
+    stored-as (λ (n : ℕ). n) (now (a .offset)) _ _ (backSays (found .result)) _ _ (c .put-offset .ensures)
+    (found-answer (read .read .ensures) (omega arith) (backRefusal home) (byteOf home) (found .ensures))
 
 pub moorsickle-back-spec : {M : Type 1} → statement M
 moorsickle-back-spec =

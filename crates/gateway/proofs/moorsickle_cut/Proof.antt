@@ -1,12 +1,14 @@
 -- `gateway::moorsickle_cut` meets its contract: a refusal of the reading comes first; else `cut` writes the pieces by the
 -- components at the places found, and their number is stored.
+use Prim.Native.Nat.{ℕ}
 use mathlib.Core.Path.{_≡_, _∙_}
 use native.Mathlib.Omega.{arith}
 use lib.ListN.{length}
 use denote.Ref.{now}
 use borrow.Author.Needs.{needs}
-use Rattle.mapping.specs.Cutting.{cutRefusal, cutCount, cutIn}
+use Rattle.mapping.specs.Cutting.{cutRefusal, cutCount, cutIn, cutSays}
 use Rattle.gateway.specs.Host.{cutNumber, piecesAfter, countAfter}
+use Rattle.gateway.specs.LentAnswers.{stored-as}
 use Rattle.gateway.specs.HostLaws.{room-lent}
 use Rattle.gateway.specs.FoundLaws.{found-refused, found-places, found-own, found-components, found-answer}
 use Rattle.gateway.proofs.moorsickle_cut.Statement.{statement}
@@ -26,7 +28,7 @@ returns-2 c =
     let a = read .before .before .before .before .args in
     let room = now (a .room) in
     let z : read .read .result .refusal ≡ 0 = omega arith in
-    let stored = c .put-count .ensures _ _
+    let stored = stored-as (λ (n : ℕ). n) (now (a .count)) _ _ (cutSays (w .cut .result)) _ _ (c .put-count .ensures)
     (found-answer (read .read .ensures) z (cutRefusal (a .offset) (a .length) (length room))
     (cutCount (a .offset) (a .length)) (w .cut .ensures .0)) in (
       stored .0,

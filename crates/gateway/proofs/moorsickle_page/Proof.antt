@@ -1,11 +1,14 @@
 -- `gateway::moorsickle_page` meets its contract: a refusal of the reading comes first; else the layout of the components at
 -- the places found is valid, `write_page` writes the page, and its number of bytes is stored.
-use mathlib.Core.Path.{_≡_, _∙_}
+use Prim.Native.Nat.{ℕ}
+use mathlib.Core.Path.{_≡_, ap, _∙_}
 use native.Mathlib.Omega.{arith}
+use lib.ListN.{length}
 use denote.Ref.{now}
 use borrow.Author.Needs.{needs}
-use Rattle.paging.specs.Paging.{writtenPage}
+use Rattle.paging.specs.Paging.{writtenPage, outAnswer}
 use Rattle.gateway.specs.Host.{hostLayout, pageNumber, bufferAfter, writtenAfter}
+use Rattle.gateway.specs.LentAnswers.{writtenSays, stored-as, written-says}
 use Rattle.gateway.specs.HostLaws.{buffer-lent}
 use Rattle.gateway.specs.FoundLaws.{found-refused, found-own, found-valid, found-layout}
 use Rattle.gateway.proofs.moorsickle_page.Statement.{statement}
@@ -43,8 +46,11 @@ returns-2 c =
     let s = now (a .pages) in
     let buffer = now (a .buffer) in
     let done = rw (is-read l) at (w .write-page .ensures) in
-    let stored = c .put-written .ensures (pageNumber s (a .number) buffer) (writtenPage (hostLayout s) (a .number))
-    (rw own (done .0)) in
+    let n = pageNumber s (a .number) buffer in
+    let page = writtenPage (hostLayout s) (a .number) in
+    let out : w .write-page .result ≡ outAnswer n page = rw own (done .0) in
+    let stored = stored-as (λ (k : ℕ). k) (now (a .written)) n (length page) (writtenSays (w .write-page .result)) _ _
+    (c .put-written .ensures) (ap writtenSays out ∙ written-says n page) in
     (stored .0, rw own (done .1 ∙ buffer-lent _ _ buffer), stored .1)
 
 pub moorsickle-page-spec : {M : Type 1} → statement M

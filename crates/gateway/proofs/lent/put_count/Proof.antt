@@ -1,14 +1,22 @@
 -- `gateway::lent::put_count` meets its contract, case by case.
-use mathlib.Core.Path.{sym, ap, _∙_}
+use Prim.Native.Nat.{ℕ}
+use mathlib.Core.Path.{ap}
+use denote.Ref.{now}
 use borrow.Author.Needs.{needs}
 use Rattle.mapping.specs.Cutting.{cutSays}
-use Rattle.gateway.proofs.Stores.{stored, kept}
+use Rattle.gateway.specs.LentAnswers.{numberIn, storedIn, stored-case}
 use Rattle.gateway.proofs.lent.put_count.Statement.{statement}
 use Rattle.gateway.proofs.lent.put_count.Tie as tie
 
+returns : tie.Need-returns
+unfolding cutSays numberIn storedIn
+returns c =
+    stored-case (λ (n : ℕ). n) (now (c .before .before .before .args .count)) (ap cutSays (c .before .cut .given .1))
+
+returns-2 : tie.Need-returns-2
+unfolding cutSays numberIn storedIn
+returns-2 c =
+    stored-case (λ (n : ℕ). n) (now (c .before .before .before .args .count)) (ap cutSays (c .before .cut2 .given .1))
+
 pub put-count-spec : {M : Type 1} → statement M
-unfolding cutSays
-put-count-spec =
-    tie.close (tie.spec (λ c. search needs) (λ c. search needs) (λ c. search needs)
-    (λ c n b e. kept n _ b b _ (sym (ap cutSays (c .before .cut .given .1)) ∙ e))
-    (λ c n b e. stored n b (λ x. x) _ _ (sym (ap cutSays (c .before .cut2 .given .1)) ∙ e)))
+put-count-spec = tie.close (tie.spec (λ c. search needs) (λ c. search needs) (λ c. search needs) returns returns-2)

@@ -1,26 +1,23 @@
 -- `gateway::lent::put_home` meets its contract, case by case.
-use mathlib.Core.Path.{sym, ap, _∙_}
-use mathlib.Core.Option.{some}
+use mathlib.Core.Path.{ap}
 use denote.Ref.{now}
 use borrow.Author.Needs.{needs}
-use Rattle.mapping.specs.Lookup.{homeSays, lookupSays}
+use Rattle.mapping.specs.Lookup.{lookupSays}
 use Rattle.gateway.specs.Host.{homeNumbers}
-use Rattle.gateway.proofs.Stores.{stored, kept}
+use Rattle.gateway.specs.LentAnswers.{numberIn, storedIn, stored-case}
 use Rattle.gateway.proofs.lent.put_home.Statement.{statement}
 use Rattle.gateway.proofs.lent.put_home.Tie as tie
 
 returns : tie.Need-returns
-unfolding lookupSays
-returns c n h e =
-    kept n (c .before .found .given .0 .0) h (homeNumbers h) (now (c .before .before .before .args .home))
-    (sym (ap lookupSays (c .before .found .given .1)) ∙ e)
+unfolding lookupSays numberIn storedIn
+returns c =
+    stored-case homeNumbers (now (c .before .before .before .args .home)) (ap lookupSays (c .before .found .given .1))
 
 returns-2 : tie.Need-returns-2
-unfolding lookupSays
-returns-2 c n h e =
-    let f = c .before .before .before .found2 .given in
-    stored n h homeNumbers (now (c .before .before .before .before .before .args .home)) (some (homeSays (f .0 .0)))
-    (sym (ap lookupSays (f .1)) ∙ e)
+unfolding lookupSays numberIn storedIn
+returns-2 c =
+    let f = c .before .before .before in
+    stored-case homeNumbers (now (f .before .before .args .home)) (ap lookupSays (f .found2 .given .1))
 
 pub put-home-spec : {M : Type 1} → statement M
 put-home-spec =

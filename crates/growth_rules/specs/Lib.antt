@@ -17,3 +17,4 @@ pub mod ReadingLaws
 pub mod MomentLaws
 pub mod Demand3
 pub mod CallLaws
+pub mod AcceptedLaws

@@ -26,7 +26,7 @@ use Rattle.free_table.specs.Choosing.{chosen}
 use Rattle.growth_rules.specs.Parts.{freshId}
 use Rattle.growth_rules.specs.Steps.{Call, Step, stays, lacks, changes, stepAfter, choosing, heldStep, spillStep, lowStep}
 use Rattle.growth_rules.specs.Steps.{extensionStep, stepOn}
-use Rattle.growth_rules.specs.Growing.{Effect, Outcome, meets, stepOf, outcomeOf, growIn, growOf}
+use Rattle.growth_rules.specs.Growing.{Effect, Outcome, meets, highestGeneration, stepOf, outcomeOf, growIn, growOf}
 
 module _ (k : Call) where
   -- If a step on the components cs changes nothing, the offset lies in an init component.
@@ -123,7 +123,7 @@ module _ (l : Layout) (k : Call) where
   outcome-home (changes cs os) h e q c =
       bool-cases (ltb 16 (length cs)) (λ t. refused-home 17 e (rw t at q) c)
       (λ few. bool-cases (meets os (recordsIn (view l))) (λ t. refused-home 18 e (rw (few, t) at q) c)
-      (λ apart. bool-cases (eqb (l .generation) 4294967295) (λ t. refused-home 19 e (rw (few, apart, t) at q) c)
+      (λ apart. bool-cases (eqb (l .generation) highestGeneration) (λ t. refused-home 19 e (rw (few, apart, t) at q) c)
       (λ below. let same = answer-gives 0 _ e (rw (few, apart, below) at q) .1 in
       clash (sym (ap (λ (d : Effect). d .changed) same)) c)))
 

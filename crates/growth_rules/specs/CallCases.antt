@@ -17,7 +17,8 @@ use Rattle.layout.specs.Holder.{lastEnd}
 use Rattle.free_table.specs.Table.{usable, tableOk}
 use Rattle.free_table.specs.Choosing.{raisedFirst}
 use Rattle.growth_rules.specs.Steps.{Call, Step, stays, lacks, changes}
-use Rattle.growth_rules.specs.Growing.{Outcome, meets, stepOf, refusing, accepting, outcomeOf, growIn, growOf}
+use Rattle.growth_rules.specs.Growing.{Outcome, meets, highestGeneration, stepOf, refusing, accepting}
+use Rattle.growth_rules.specs.Growing.{outcomeOf, growIn, growOf}
 use Rattle.growth_rules.specs.CallFacts.{Grown}
 
 -- "Growth: 1, 10, 15 to 19."
@@ -40,7 +41,7 @@ module _ (l : Layout) (k : Call) where
   step-cases v t (changes cs os) e =
       cond-elim (Called l k) (ltb 16 (length cs)) (λ q. refused 17 refl)
       (λ few. cond-elim (Called l k) (meets os (recordsIn (view l))) (λ q. refused 18 refl)
-      (λ apart. cond-elim (Called l k) (eqb (l .generation) 4294967295) (λ q. refused 19 refl)
+      (λ apart. cond-elim (Called l k) (eqb (l .generation) highestGeneration) (λ q. refused 19 refl)
       (λ below. grown cs os
       record { sound = v; table = t; step = e; few = ltb-false 16 (length cs) few; apart = apart; below = below })))
 

@@ -14,7 +14,7 @@ use Rattle.layout.specs.Rules.{valid}
 use Rattle.free_table.specs.Table.{usable, tableOk}
 use Rattle.free_table.specs.Choosing.{raisedFirst}
 use Rattle.growth_rules.specs.Steps.{Call, changes}
-use Rattle.growth_rules.specs.Growing.{Outcome, meets, stepOf}
+use Rattle.growth_rules.specs.Growing.{Outcome, meets, highestGeneration, stepOf}
 
 -- The step of the call changes the components to cs, with the object records os chosen, and nothing refuses it.
 pub record Grown (l : Layout) (k : Call) (cs : List Component) (os : List Object) : Type 0 where
@@ -23,7 +23,7 @@ pub record Grown (l : Layout) (k : Call) (cs : List Component) (os : List Object
   pub step : stepOf l k ≡ changes cs os
   pub few : length cs ≤ 16
   pub apart : meets os (recordsIn (view l)) ≡ false
-  pub below : eqb (l .generation) 4294967295 ≡ false
+  pub below : eqb (l .generation) highestGeneration ≡ false
 
 module _ (l : Layout) (k : Call) where
   -- The layout and the table of an outcome are those that the call was given.

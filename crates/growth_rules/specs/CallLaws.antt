@@ -24,7 +24,7 @@ use Rattle.free_table.specs.ChoosingLaws.{chosen-none, chosen-same}
 use Rattle.growth_rules.specs.Parts.{freshId}
 use Rattle.growth_rules.specs.Steps.{Call, Step, stays, lacks, changes, stepAfter, choosing, heldStep, spillStep, lowStep}
 use Rattle.growth_rules.specs.Steps.{extensionStep, stepOn}
-use Rattle.growth_rules.specs.Growing.{Effect, Outcome, stepOf, growOf}
+use Rattle.growth_rules.specs.Growing.{Effect, Outcome, highestGeneration, stepOf, growOf}
 use Rattle.growth_rules.specs.CallFacts.{Leaves, Changes}
 use Rattle.growth_rules.specs.CallCases.{growthRefusals, Called, refused, unchanged, grown, call-cases}
 
@@ -103,7 +103,7 @@ module _ (l : Layout) (k : Call) where
   outcome-generation : {o : Outcome} → Called l k o → l .generation ≤ 4294967295 → o .layout .generation ≤ 4294967295
   outcome-generation (refused n r) h = h
   outcome-generation unchanged h = h
-  outcome-generation (grown cs os g) h = omega (arith, eqb-false (l .generation) 4294967295 (g .below))
+  outcome-generation (grown cs os g) h = omega (arith, eqb-false (l .generation) highestGeneration (g .below))
 
   -- The generation stays a 32-bit number.
   pub call-generation : l .generation ≤ 4294967295 → growOf l k .layout .generation ≤ 4294967295

@@ -35,6 +35,10 @@ pub record Outcome : Type 0 where
 abbrev pub meets : List Object → List Object → Bool
 meets os others = anyOf (λ (o : Object). elem sameObject o others) os
 
+-- The highest generation, 2^32 - 1: it is not raised (19).
+abbrev pub highestGeneration : ℕ
+highestGeneration = 4294967295
+
 -- The step of a call on a layout.
 abbrev pub stepOf : Layout → Call → Step
 stepOf l k = stepOn k (freshId (idsOf (view l))) (view l)
@@ -62,7 +66,7 @@ module _ (l : Layout) (k : Call) where
   outcomeOf (changes cs os) =
       cond (ltb 16 (length cs)) (refusing 17)
       (cond (meets os (recordsIn (view l))) (refusing 18)
-      (cond (eqb (l .generation) 4294967295) (refusing 19)
+      (cond (eqb (l .generation) highestGeneration) (refusing 19)
       (accepting true (packed (l .generation + 1) cs) (raisedFirst (usable (k .mark)) (length os) (k .table)))))
 
   -- What a call gives on a valid layout: 10, "a byte asked for lies at or past the last component's end"; 15, "free table bad"; else

@@ -54,6 +54,7 @@ use Rattle.growth_rules.specs.Growing as growing
 use Rattle.growth_rules.specs.Growing.{stepOf, growOf}
 use Rattle.growth_rules.specs.CallFacts.{Leaves, Changes}
 use Rattle.growth_rules.specs.CallLaws.{refusal-leaves, unchanged-leaves, changed-changes, answer-home}
+use Rattle.growth_rules.specs.AcceptedLaws.{unchanged-home}
 use Rattle.growth.specs.declared.Effect.{Effect}
 use Rattle.growth.specs.declared.GrowOut.the-variants as GrowOut
 use Rattle.growth.specs.Answers.{growSays}
@@ -301,12 +302,12 @@ module _ (l : Layout) (k : Call) where
   -- or accepted.
   pub growth-accepts : (e : Effect) → growSays (GrowOut.Accepted e) ≡ growOf l k .answer
       → (e .home ≡ isGiven (homeOf (k .offset) (view (growOf l k .layout))))
-      × (e .changed ≡ false → Leaves l k (growOf l k))
+      × (e .changed ≡ false → (e .home ≡ true) × Leaves l k (growOf l k))
       × (e .changed ≡ true → Changes l k (growOf l k))
   unfolding growSays
   growth-accepts e q =
       let d : growing.Effect = record { home = e .home; changed = e .changed } in (
         answer-home l k d (sym q),
-        λ c. unchanged-leaves l k d (sym q) c,
+        λ c. (unchanged-home l k d (sym q) c, unchanged-leaves l k d (sym q) c),
         λ c. changed-changes l k d (sym q) c,
       )

@@ -122,11 +122,12 @@ pub growth-refused : (l : Layout) (k : Call) (n : ℕ)
     × (growSays (GrowOut.Refused n) ≡ growOf l k .answer → Leaves l k (growOf l k))
 growth-refused = calls.growth-refuses
 
--- "One call makes one step": nothing changes, or the layout changes by that step, with the objects chosen that
--- `Changes` names. "The answer tells whether the offset now has a home".
+-- "One call makes one step": nothing changes, since the offset has a home already, or the layout changes by that step,
+-- with the objects chosen that `Changes` names. "The answer tells whether the offset now has a home".
 pub growth-accepted : (l : Layout) (k : Call) (e : Effect) → growSays (GrowOut.Accepted e) ≡ growOf l k .answer
     → (e .home ≡ isGiven (homeOf (k .offset) (view (growOf l k .layout))))
-    × (e .changed ≡ false → Leaves l k (growOf l k)) × (e .changed ≡ true → Changes l k (growOf l k))
+    × (e .changed ≡ false → (e .home ≡ true) × Leaves l k (growOf l k))
+    × (e .changed ≡ true → Changes l k (growOf l k))
 growth-accepted = calls.growth-accepts
 
 -- "What the writer writes reads back to the same layout" (`blanked`: with the places blank that no count reaches).

@@ -3,7 +3,7 @@
 -- is in quotes is document 01's.
 use Prim.Native.Nat.{ℕ, _+_, _≤_, _<_}
 use mathlib.Core.Path.{_≡_}
-use mathlib.Core.List.{List, map}
+use mathlib.Core.List.{List, [], _∷_, map}
 use mathlib.Core.Option.{some}
 use mathlib.Core.Bool.{true, false}
 use lib.ListN.{length, getD}
@@ -12,7 +12,9 @@ use Rattle.layout.specs.declared.Layout.{Layout}
 use Rattle.layout.specs.Records.{noObject, view}
 use Rattle.layout.specs.Rules.{valid}
 use Rattle.mapping.specs.Answers.{gives, refuses}
+use Rattle.mapping.specs.declared.Piece.{Piece}
 use Rattle.mapping.specs.Homes.{readingOf, homeOf, isGiven}
+use Rattle.mapping.specs.Cutting.{cutPieces}
 use Rattle.free_table.specs.Table.{noRecord, usable}
 use Rattle.free_table.specs.ChosenFacts.{NextOf, ChosenOrHigher, raisedIn}
 use Rattle.growth_rules.specs.Parts.{NoExtent}
@@ -20,9 +22,11 @@ use Rattle.growth_rules.specs.Steps.{Call}
 use Rattle.growth_rules.specs.Growing.{Effect, growOf}
 use Rattle.growth_rules.specs.CallFacts.{Leaves, Changes}
 use Rattle.growth_rules.specs.CallLaws.{refusal-leaves, unchanged-leaves, changed-changes, change-counted, answer-home}
+use Rattle.growth_rules.specs.AcceptedLaws.{unchanged-home}
 use Rattle.growth_rules.specs.ValidityLaws.{grow-valid}
 use Rattle.growth_rules.specs.Moments.{moments}
-use Rattle.growth_rules.specs.MomentLaws.{reading-kept}
+use Rattle.growth_rules.specs.Readings.{bytePiece}
+use Rattle.growth_rules.specs.MomentLaws.{reading-kept, byte-piece-kept}
 use Rattle.promises.specs.Numbers.{IsFirst, answerNumber}
 use Rattle.promises.specs.Calls.{growthNumbers}
 use Rattle.promises.specs.CallLaws as calls
@@ -40,6 +44,11 @@ growth-keeps = refusal-leaves
 pub growth-stays : (l : Layout) (k : Call) (e : Effect) → growOf l k .answer ≡ gives e → e .changed ≡ false
     → Leaves l k (growOf l k)
 growth-stays = unchanged-leaves
+
+-- the offset had a home already: "Init: no change, accepted";
+pub growth-needless : (l : Layout) (k : Call) (e : Effect) → growOf l k .answer ≡ gives e → e .changed ≡ false
+    → e .home ≡ true
+growth-needless = unchanged-home
 
 -- one that says that the layout changed changes it by its step, to the components that `Changes` names, with the object
 -- records chosen that it names.
@@ -79,10 +88,15 @@ pub growth-valid : (l : Layout) (k : Call) → valid l ≡ true → valid (growO
 growth-valid = grow-valid
 
 -- Over every list of calls from a valid layout, what is read off a byte's component, one byte at a time, stays, if the
--- reading does not look at the extent: the home, and the piece of the request of that one byte. Nothing is said of the
--- pieces of longer requests.
+-- reading does not look at the extent;
 pub all-readings : (l : Layout) (ks : List Call) → valid l ≡ true
     → {A : Type 0} (read : Component → ℕ → A) → NoExtent read → (i j : ℕ) → i ≤ j → j < length (moments l ks)
     → (b : ℕ) (a : A) → readingOf read b (view (getD (moments l ks) i l)) ≡ some a
     → readingOf read b (view (getD (moments l ks) j l)) ≡ some a
 all-readings = reading-kept
+
+-- so the one piece of the request of that byte alone stays. Nothing is said of the pieces of longer requests.
+pub all-byte-pieces : (l : Layout) (ks : List Call) → valid l ≡ true → (i j : ℕ) → i ≤ j → j < length (moments l ks)
+    → (b : ℕ) (p : Piece) → readingOf bytePiece b (view (getD (moments l ks) i l)) ≡ some p
+    → cutPieces b 1 (view (getD (moments l ks) j l)) ≡ p ∷ []
+all-byte-pieces = byte-piece-kept

@@ -64,7 +64,7 @@ contentRefusal c h cs =
 unfoldable pub openRefusal : Collector → List ℕ → ℕ
 openRefusal c s = cond (c .layout .complete) 2 (cond (pageForm s) (contentRefusal c (headOf s) (componentsOf s)) 3)
 
--- The number of the refusal of a page, or 0: the lowest whose condition holds.
+-- The number of the refusal of a page, or 0: the first in the order in which the call asks them whose condition holds.
 unfoldable pub pageRefusal : Collector → List ℕ → ℕ
 pageRefusal c s = cond (collectorOk c) (openRefusal c s) 1
 

@@ -41,7 +41,7 @@ unfoldable pub newJoin : Bool → Neighbour → List Neighbour → Bool
 newJoin more before cs =
     let last = lastOf before cs in every (joinTests before cs) && (more || not (isEmpty (last .begin) (last .end)))
 
--- 6 or 7, the lower number whose rule the new components break after the old ones, or 0.
+-- 6 or 7, the first of them whose rule the new components break after the old ones, or 0.
 unfoldable pub newRuleBroken : Bool → List Component → List Component → ℕ
 newRuleBroken more old new =
     cond (every (fieldTests new)) (cond (newJoin more (lastOf noneBefore (neighboursOf old)) (neighboursOf new)) 0 7) 6

@@ -54,7 +54,7 @@ fn before(s: &[u8], places: &[usize; 16], i: usize) -> Neighbour
     neighbour_at(s, list[i - 1])
 }
 
-// 6 or 7, the lower number whose rule the components at the places from `from` up to `to` break after those at the
+// 6 or 7, the first of them whose rule the components at the places from `from` up to `to` break after those at the
 // first `from` places, or 0. `more` says that pages are outstanding. One pass asks both rules.
 pub fn new_rule_broken(s: &[u8], places: &[usize; 16], from: usize, to: usize, more: bool) -> u8
     requires { ⌜ (from ≤ to) × (to ≤ 16) × Within (now s) to (now places) ⌝ }

@@ -12,12 +12,12 @@ use Rattle.layout.specs.Fields.{fieldTests}
 use Rattle.layout.specs.Neighbours.{neighboursHold}
 use Rattle.layout.specs.Distinct.{distinctHold}
 
--- 7 or 8, the lower number whose rule is broken, or 0. `more` says that pages are outstanding.
+-- 7 or 8, the first of them whose rule is broken, or 0. `more` says that pages are outstanding.
 abbrev pub laterRuleBroken : Bool → List Component → ℕ
 laterRuleBroken more cs = cond (neighboursHold more (neighboursOf cs)) (cond (distinctHold cs) 0 8) 7
 
--- 6, 7 or 8, the lowest number whose rule is broken, or 0: "Among its call's numbers each is given exactly if its condition holds
--- and no lower one's does."
+-- 6, 7 or 8, the first of them in this order whose rule is broken, or 0: "Among its call's numbers each is given exactly
+-- if its condition holds and no lower one's does." (In document 01 the order of a call's numbers is that of size.)
 unfoldable pub ruleBroken : Bool → List Component → ℕ
 ruleBroken more cs = cond (every (fieldTests cs)) (laterRuleBroken more cs) 6
 

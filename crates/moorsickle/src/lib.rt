@@ -1,6 +1,6 @@
 // The library's public calls, every one in this file. None asks anything of its caller: whatever goes in, the answer
-// and every lent byte afterwards are those that the call states. A call that refuses gives the first number that applies,
-// in the order in which the call lists them, and all lent memory stays as it was.
+// and every lent byte afterwards are those that the call states. A call that refuses gives the first number that
+// applies, in the order in which the call lists them, and all lent memory stays as it was.
 //
 // Layout, component and object are the records of crate `layout`, a target record that of crate `free_table`. A layout is
 // valid if its components keep the component rules and it is complete: what a collector holds with pages outstanding is

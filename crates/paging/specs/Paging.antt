@@ -73,7 +73,7 @@ writtenPage l k = pageFrom (l .generation) k (fromPage k (view l))
 unfoldable pub writeRefusal : Layout → ℕ → ℕ → ℕ
 writeRefusal l k room = cond (isSome (fromPage k (view l))) (cond (leb (length (writtenPage l k)) room) 0 20) 4
 
--- The same of any layout, 1 if it is not valid: the lowest number whose condition holds.
+-- The same of any layout, 1 if it is not valid, which is asked first.
 unfoldable pub outRefusal : Layout → ℕ → ℕ → ℕ
 outRefusal l k room = cond (valid l) (writeRefusal l k room) 1
 

@@ -41,8 +41,8 @@ pub struct Neighbour {
     pub end: u64,
 }
 
-// A layout: its components are in the first `count` places, in the order of the file. `complete` says that these are all
-// of them: no pages are outstanding. A layout that is not complete is not valid.
+// A layout: its components are in the first `count` places, in the order of the file. `complete` says that these are
+// all of them: no pages are outstanding. A layout that is not complete is not valid.
 pub struct Layout {
     pub generation: u32,
     pub count: usize,
@@ -88,8 +88,8 @@ pub fn no_layout() -> Layout
     }
 }
 
-// The complete layout of a generation and the first `count` of the components; the rest of its places blank. Every layout
-// with components that is given back is made here.
+// The complete layout of a generation and the first `count` of the components; the rest of its places blank. Every
+// layout with components that is given back is made here.
 pub fn pack(generation: u32, count: usize, components: [Component; 16]) -> Layout
     requires { ⌜ count ≤ 16 ⌝ }
     ensures { λ r. ⌜ r ≡ packed generation (take count components) ⌝ }

@@ -2,9 +2,9 @@
 // and every lent byte afterwards are those that the call states. A call that refuses gives the first number that
 // applies, in the order in which the call lists them, and all lent memory stays as it was.
 //
-// Layout, component and object are the records of crate `layout`, a target record that of crate `free_table`. A layout is
-// valid if its components keep the component rules and it is complete: what a collector holds with pages outstanding is
-// not complete, so every call that takes a layout refuses it by 1.
+// Layout, component and object are the records of crate `layout`, a target record that of crate `free_table`. A layout
+// is valid if its components keep the component rules and it is complete: what a collector holds with pages outstanding
+// is not complete, so every call that takes a layout refuses it by 1.
 //
 // Offsets, lengths and bytes are counted in bytes, a file byte from the file's start and an object byte from its
 // object's; pages, components and stripes are counted from 0.

@@ -39,7 +39,7 @@ use Rattle.mapping.specs.declared.LookupOut.the-variants as LookupOut
 use Rattle.mapping.specs.declared.BackOut.the-variants as BackOut
 use Rattle.mapping.specs.declared.CutOut.the-variants as CutOut
 use Rattle.mapping.specs.declared.Piece.{Piece}
-use Rattle.mapping.specs.Answers.{Answer, gives, refuses, answer, checked}
+use Rattle.mapping.specs.Answers.{Answer, gives, refuses, answer, checked, answerNumber}
 use Rattle.mapping.specs.AnswerLaws.{gives-or-refuses, answer-gives, checked-gives}
 use Rattle.mapping.specs.Homes.{Home, inObject, homeOf, isGiven}
 use Rattle.mapping.specs.Lookup.{lookupRefusal, homeSays, lookupSays, lookupOf}
@@ -59,7 +59,7 @@ use Rattle.growth.specs.declared.Effect.{Effect}
 use Rattle.growth.specs.declared.GrowOut.the-variants as GrowOut
 use Rattle.growth.specs.Answers.{growSays}
 use Rattle.gateway.specs.HostGrowthLaws.{refused-some}
-use Rattle.promises.specs.Numbers.{Refusal, IsFirst, RefusedBy, answerNumber}
+use Rattle.promises.specs.Numbers.{Refusal, IsFirst, RefusedBy}
 use Rattle.promises.specs.Calls.{pageInNumbers, layoutOutNumbers, pageOutNumbers, lookupNumbers, backNumbers}
 use Rattle.promises.specs.Calls.{cutNumbers, cutRoom, growthNumbers}
 use Rattle.promises.specs.NumberLaws as numbers

@@ -14,7 +14,7 @@ use Rattle.mapping.specs.declared.ObjectHome.{ObjectHome}
 use Rattle.mapping.specs.declared.LookupOut.the-variants as LookupOut
 use Rattle.mapping.specs.declared.BackOut.the-variants as BackOut
 use Rattle.mapping.specs.declared.CutOut.the-variants as CutOut
-use Rattle.mapping.specs.Answers.{gives, refuses, answer}
+use Rattle.mapping.specs.Answers.{gives, refuses, answer, answerNumber}
 use Rattle.mapping.specs.AnswerLaws.{gives-or-refuses, answer-gives}
 use Rattle.mapping.specs.Homes.{Home, homeOf}
 use Rattle.mapping.specs.Lookup.{lookupRefusal, homeSays, lookupSays, lookupOf}
@@ -34,7 +34,6 @@ use Rattle.gateway.specs.HostGrowth.{wordTable, withNextWords, hostGrown, pages
 use Rattle.gateway.specs.HostGrowth.{growNumber, tableAfter, grownAfter, answerAfter}
 use Rattle.gateway.specs.LentWords.{writtenLength}
 use Rattle.gateway.specs.HostGrowthLaws.{refused-some, words-afterwards}
-use Rattle.promises.specs.Numbers.{answerNumber}
 
 -- A refusal of the reading comes first.
 first-refused : (pages : List ℕ) (own n : ℕ) → 0 < n → hostReading pages .refusal ≡ n → readingFirst pages own ≡ n

@@ -19,7 +19,7 @@ use Rattle.collector.specs.declared.Collector.{Collector}
 use Rattle.collector.specs.Collector.{collectorOk}
 use Rattle.collector.specs.Giving.{layoutOut}
 use Rattle.mapping.specs.declared.Piece.{Piece}
-use Rattle.mapping.specs.Answers.{answer}
+use Rattle.mapping.specs.Answers.{answer, answerNumber}
 use Rattle.mapping.specs.Back.{fileByteIn, owner, hiddenRefusal}
 use Rattle.mapping.specs.Cutting.{roomAfter}
 use Rattle.paging.specs.Paging.{outBuffer}
@@ -27,7 +27,6 @@ use Rattle.free_table.specs.Table.{tableOk}
 use Rattle.growth_rules.specs.Steps.{Call, Step, stays, lacks, changes}
 use Rattle.growth_rules.specs.Growing.{meets, stepOf, outcomeOf, growIn, growOf}
 use Rattle.promises.specs.Numbers.{Refusal, _when_, first, has, differ, IsFirst, refusalAt, NoneBefore}
-use Rattle.promises.specs.Numbers.{answerNumber}
 use Rattle.promises.specs.Calls.{hidden, lacksTargets, leavesMany, meetsLayout, isChange}
 
 -- The first number is not 0 and is not among the others, which differ.

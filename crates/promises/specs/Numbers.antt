@@ -5,7 +5,6 @@ use mathlib.Core.List.{List, [], _∷_}
 use mathlib.Core.Bool.{Bool, true, false, not, cond, _&&_, _||_}
 use lib.Dec.{eqb}
 use lib.ListN.{getD}
-use Rattle.mapping.specs.Answers.{Answer, gives, refuses}
 
 -- A refusal of a call: its number, and whether its condition holds.
 pub record Refusal : Type 0 where
@@ -48,8 +47,3 @@ refusalAt rs i = getD rs i (0 when false)
 -- No refusal before that at place i applies.
 abbrev pub NoneBefore : List Refusal → ℕ → Type 0
 NoneBefore rs i = (j : ℕ) → j < i → refusalAt rs j .applies ≡ false
-
--- The number of an answer that refuses; 0 if it gives what was asked for.
-abbrev pub answerNumber : {A : Type 0} → Answer A → ℕ
-answerNumber (gives a) = 0
-answerNumber (refuses n) = n

@@ -16,7 +16,7 @@ use Rattle.mapping.specs.declared.BackOut.{BackOut}
 use Rattle.mapping.specs.declared.BackOut.the-variants as BackOut
 use Rattle.mapping.specs.declared.CutOut.{CutOut}
 use Rattle.mapping.specs.declared.CutOut.the-variants as CutOut
-use Rattle.mapping.specs.Answers.{refuses}
+use Rattle.mapping.specs.Answers.{refuses, answerNumber}
 use Rattle.mapping.specs.AnswerLaws.{gives-or-refuses}
 use Rattle.mapping.specs.Homes.{Home}
 use Rattle.mapping.specs.Lookup.{lookupSays, lookupOf}
@@ -29,7 +29,6 @@ use Rattle.growth_rules.specs.CallLaws.{refusal-leaves}
 use Rattle.growth.specs.declared.GrowOut.{GrowOut}
 use Rattle.growth.specs.declared.GrowOut.the-variants as GrowOut
 use Rattle.growth.specs.Answers.{growSays}
-use Rattle.promises.specs.Numbers.{answerNumber}
 
 -- An answer that says a refusal by 1 is the case of a refusal with that number.
 lookup-one : (r : LookupOut) → lookupSays r ≡ refuses 1 → r ≡ LookupOut.Refused 1

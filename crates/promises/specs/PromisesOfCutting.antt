@@ -13,14 +13,14 @@ use Rattle.layout.specs.declared.Component.{Component}
 use Rattle.layout.specs.declared.Layout.{Layout}
 use Rattle.layout.specs.Records.{view}
 use Rattle.layout.specs.Rules.{valid}
-use Rattle.mapping.specs.Answers.{gives}
+use Rattle.mapping.specs.Answers.{gives, answerNumber}
 use Rattle.mapping.specs.Lookup.{notInitAt}
 use Rattle.mapping.specs.Spans.{spansOf}
 use Rattle.mapping.specs.Cutting.{notInitAsked, cutPieces, cutOf}
 use Rattle.mapping.specs.CutFacts.{Cut}
 use Rattle.mapping.specs.AskedLaws.{past-asked, not-init-asked}
 use Rattle.mapping.specs.CutTheorem as cutting
-use Rattle.promises.specs.Numbers.{IsFirst, answerNumber}
+use Rattle.promises.specs.Numbers.{IsFirst}
 use Rattle.promises.specs.Calls.{cutNumbers, cutRoom}
 use Rattle.promises.specs.CallLaws as calls
 

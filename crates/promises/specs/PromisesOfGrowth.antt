@@ -11,7 +11,7 @@ use Rattle.layout.specs.declared.Component.{Component}
 use Rattle.layout.specs.declared.Layout.{Layout}
 use Rattle.layout.specs.Records.{noObject, view}
 use Rattle.layout.specs.Rules.{valid}
-use Rattle.mapping.specs.Answers.{gives, refuses}
+use Rattle.mapping.specs.Answers.{gives, refuses, answerNumber}
 use Rattle.mapping.specs.declared.Piece.{Piece}
 use Rattle.mapping.specs.Homes.{readingOf, homeOf, isGiven}
 use Rattle.mapping.specs.Cutting.{cutPieces}
@@ -27,7 +27,7 @@ use Rattle.growth_rules.specs.ValidityLaws.{grow-valid}
 use Rattle.growth_rules.specs.Moments.{moments}
 use Rattle.growth_rules.specs.Readings.{bytePiece}
 use Rattle.growth_rules.specs.MomentLaws.{reading-kept, byte-piece-kept}
-use Rattle.promises.specs.Numbers.{IsFirst, answerNumber}
+use Rattle.promises.specs.Numbers.{IsFirst}
 use Rattle.promises.specs.Calls.{growthNumbers}
 use Rattle.promises.specs.CallLaws as calls
 use Rattle.promises.specs.GrowthLaws as growing

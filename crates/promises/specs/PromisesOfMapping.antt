@@ -12,13 +12,13 @@ use Rattle.layout.specs.declared.Component.{Component}
 use Rattle.layout.specs.declared.Layout.{Layout}
 use Rattle.layout.specs.Records.{view}
 use Rattle.layout.specs.Rules.{valid}
-use Rattle.mapping.specs.Answers.{gives}
+use Rattle.mapping.specs.Answers.{gives, answerNumber}
 use Rattle.mapping.specs.Homes.{Home, inObject, inInit, homeOf, hasHome}
 use Rattle.mapping.specs.Lookup.{lookupOf}
 use Rattle.mapping.specs.Back.{backOf}
 use Rattle.mapping.specs.HomeLaws as homes
 use Rattle.mapping.specs.BackLaws.{looked-up-back, back-looked-up}
-use Rattle.promises.specs.Numbers.{IsFirst, answerNumber}
+use Rattle.promises.specs.Numbers.{IsFirst}
 use Rattle.promises.specs.Calls.{lookupNumbers, backNumbers}
 use Rattle.promises.specs.CallLaws as calls
 use Rattle.promises.specs.LookupLaws as looking

@@ -4,17 +4,17 @@ use mathlib.Core.Path.{ap}
 use denote.Ref.{now}
 use borrow.Author.Needs.{needs}
 use Rattle.mapping.specs.Cutting.{cutSays}
-use Rattle.gateway.specs.LentAnswers.{numberIn, storedIn, stored-case}
+use Rattle.gateway.specs.LentAnswers.{storedIn, stored-case}
 use Rattle.gateway.proofs.lent.put_count.Statement.{statement}
 use Rattle.gateway.proofs.lent.put_count.Tie as tie
 
 returns : tie.Need-returns
-unfolding cutSays numberIn storedIn
+unfolding cutSays storedIn
 returns c =
     stored-case (λ (n : ℕ). n) (now (c .before .before .before .args .count)) (ap cutSays (c .before .cut .given .1))
 
 returns-2 : tie.Need-returns-2
-unfolding cutSays numberIn storedIn
+unfolding cutSays storedIn
 returns-2 c =
     stored-case (λ (n : ℕ). n) (now (c .before .before .before .args .count)) (ap cutSays (c .before .cut2 .given .1))
 

@@ -4,17 +4,17 @@ use denote.Ref.{now}
 use borrow.Author.Needs.{needs}
 use Rattle.mapping.specs.Lookup.{lookupSays}
 use Rattle.gateway.specs.Host.{homeNumbers}
-use Rattle.gateway.specs.LentAnswers.{numberIn, storedIn, stored-case}
+use Rattle.gateway.specs.LentAnswers.{storedIn, stored-case}
 use Rattle.gateway.proofs.lent.put_home.Statement.{statement}
 use Rattle.gateway.proofs.lent.put_home.Tie as tie
 
 returns : tie.Need-returns
-unfolding lookupSays numberIn storedIn
+unfolding lookupSays storedIn
 returns c =
     stored-case homeNumbers (now (c .before .before .before .args .home)) (ap lookupSays (c .before .found .given .1))
 
 returns-2 : tie.Need-returns-2
-unfolding lookupSays numberIn storedIn
+unfolding lookupSays storedIn
 returns-2 c =
     let f = c .before .before .before in
     stored-case homeNumbers (now (f .before .before .args .home)) (ap lookupSays (f .found2 .given .1))

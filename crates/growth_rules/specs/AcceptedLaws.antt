@@ -1,5 +1,5 @@
--- A call that is accepted and changes nothing: its offset has a home. So growth that does nothing is no growth. What is in quotes
--- is document 01's.
+-- A call that is accepted and changes nothing: its offset has a home. So no growth accepts every call and does nothing. What is
+-- in quotes is document 01's.
 use Prim.Native.Nat.{ℕ, _<_}
 use mathlib.Core.Path.{_≡_, sym, ap, _∙_}
 use mathlib.Core.List.{List, [], _∷_}

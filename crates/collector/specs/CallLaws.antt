@@ -6,12 +6,12 @@ use mathlib.Core.Bool.{true, false, cond}
 use native.Mathlib.Omega.{arith}
 use Rattle.lists.specs.Bools.{bool-cases}
 use Rattle.layout.specs.declared.Component.{Component}
-use Rattle.layout.specs.Records.{noLayout}
+use Rattle.layout.specs.Records.{packed, noLayout}
 use Rattle.page.specs.declared.Head.{Head}
 use Rattle.page.specs.Content.{headOf, componentsOf}
 use Rattle.collector.specs.declared.Collector.{Collector}
 use Rattle.collector.specs.declared.Answer.the-variants.{More, Complete, Refused}
-use Rattle.collector.specs.Collector.{collectorOk}
+use Rattle.collector.specs.Collector.{gathered, collectorOk}
 use Rattle.collector.specs.Taking.{numberOf, pageRefusal, settled, added, pageIn}
 use Rattle.collector.specs.TakingLaws.{settled-number}
 use Rattle.collector.specs.Giving.{layoutOut}
@@ -28,6 +28,13 @@ settled-kept : (n : ℕ) (c : Collector) (h : Head) (cs : List Component) → 0 
 unfolding settled
 settled-kept zero c h cs e = absurd (omega arith)
 settled-kept (suc n) c h cs e = (refl, refl)
+
+-- If the answer is "more wanted", the page said so.
+settled-more : (n : ℕ) (c : Collector) (h : Head) (cs : List Component) → settled n c h cs .answer ≡ More
+    → settled n c h cs .collector .layout .complete ≡ false
+unfolding settled
+settled-more zero c h cs e = bool-cases (h .more) (λ m. rw m) (λ m. let x : Complete ≡ More = rw m at e in cc)
+settled-more (suc n) c h cs e = cc
 
 module _ (c : Collector) (s : List ℕ) where
   -- The answer's number is that of the definition.
@@ -53,12 +60,18 @@ module _ (c : Collector) (s : List ℕ) where
   pub refused-again : 0 < pageRefusal c s → (p : List ℕ) → pageIn (pageIn c s .collector) p ≡ pageIn c p
   refused-again h p = ap (λ (d : Collector). pageIn d p) (refused-collector h)
 
-  -- After a page that says that more follow, pages are outstanding,
-  pub more-outstanding : pageRefusal c s ≡ 0 → headOf s .more ≡ true → pageIn c s .collector .layout .complete ≡ false
-  more-outstanding e m = ap (λ (d : Collector). d .layout .complete) (taken-collector e) ∙ rw m
+  -- After the answer "more wanted", pages are outstanding,
+  pub more-outstanding : pageIn c s .answer ≡ More → pageIn c s .collector .layout .complete ≡ false
+  more-outstanding e = settled-more (pageRefusal c s) c (headOf s) (componentsOf s) e
 
 -- and a collector with pages outstanding never gives a layout.
 pub outstanding-none : (c : Collector) → c .layout .complete ≡ false
     → layoutOut c ≡ record { refusal = 1; layout = noLayout }
 unfolding layoutOut
 outstanding-none c e = bool-cases (collectorOk c) (λ k. rw (k, e)) (λ k. rw k)
+
+-- One that is complete and keeps the rules gives the layout of its generation and the components that were gathered.
+pub complete-given : (c : Collector) → collectorOk c ≡ true → c .layout .complete ≡ true
+    → layoutOut c ≡ record { refusal = 0; layout = packed (c .layout .generation) (gathered c) }
+unfolding layoutOut
+complete-given c k e = rw (k, e)

@@ -11,7 +11,7 @@ use Rattle.layout.specs.Facts.{Keeps}
 use Rattle.page.specs.Content.{headOf, componentsOf}
 use Rattle.collector.specs.declared.Collector.{Collector}
 use Rattle.collector.specs.declared.Answer.the-variants.{More, Complete}
-use Rattle.collector.specs.Collector.{newCollector}
+use Rattle.collector.specs.Collector.{newCollector, gathered, collectorOk}
 use Rattle.collector.specs.Taking.{numberOf, added, pageRefusal, pageIn}
 use Rattle.collector.specs.Giving.{layoutOut}
 use Rattle.collector.specs.CallLaws as collecting
@@ -40,6 +40,12 @@ pub page-in-taken : (c : Collector) (s : List ℕ) → numberOf (pageIn c s .ans
     × (pageIn c s .collector ≡ added c (headOf s) (componentsOf s))
 page-in-taken = calls.page-in-taken
 
+-- After the answer "more wanted" pages are outstanding: what was gathered is refused by every call that takes a layout
+-- (`Promises: outstanding-refused`).
+pub page-in-more : (c : Collector) (s : List ℕ) → pageIn c s .answer ≡ More
+    → pageIn c s .collector .layout .complete ≡ false
+page-in-more = collecting.more-outstanding
+
 -- "Layout out of a collector: 1."
 pub layout-out-number : (c : Collector) → IsFirst (layoutOut c .refusal) (layoutOutNumbers c)
 layout-out-number = calls.layout-out-number
@@ -48,6 +54,11 @@ layout-out-number = calls.layout-out-number
 pub outstanding-none : (c : Collector) → c .layout .complete ≡ false
     → layoutOut c ≡ record { refusal = 1; layout = noLayout }
 outstanding-none = collecting.outstanding-none
+
+-- One that is complete, and to which 1 does not apply, gives the components that were gathered, and their generation.
+pub complete-given : (c : Collector) → collectorOk c ≡ true → c .layout .complete ≡ true
+    → layoutOut c ≡ record { refusal = 0; layout = packed (c .layout .generation) (gathered c) }
+complete-given = collecting.complete-given
 
 -- "The reader takes any paging."
 pub any-paging : (g : ℕ) (ps : List (List ℕ)) → ArePages g 0 ps → somePages ps ≡ true → length (componentsIn ps) ≤ 16

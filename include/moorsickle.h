@@ -9,9 +9,9 @@
  * counted in its elements: bytes for uint8_t, numbers for uint64_t.
  *
  * Answers. Every call returns 0 if it is done, else the number of a refusal (below). A refusal of the pages, 1 to 8,
- * comes first; then the call gives the first of its own numbers that applies. A call writes only if it returns 0;
- * if it returns anything else, all memory that it was lent is as it was. docs/FORMAT.md says what to look for under
- * each number, and has the bytes of a page and the rules.
+ * comes first; then the call gives the first of its own numbers, in the order listed at the call, that applies. A call
+ * writes only if it returns 0; if it returns anything else, all memory that it was lent is as it was. docs/FORMAT.md
+ * says what to look for under each number, and has the bytes of a page and the rules.
  *
  * Memory. All memory is the caller's, before and after a call. The library allocates nothing and keeps nothing between
  * calls, neither values nor pointers; so calls may run in several threads at a time, as long as none writes what

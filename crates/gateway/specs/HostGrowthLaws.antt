@@ -9,7 +9,7 @@ use native.Mathlib.Omega.{arith}
 use lib.Dec.{leb}
 use lib.ListN.{length}
 use lib.Seq.{sets}
-use Rattle.lists.specs.Bools.{bool-cases, clash}
+use Rattle.lists.specs.Bools.{bool-cases}
 use Rattle.lists.specs.Slices.{take-sets}
 use Rattle.layout.specs.declared.Layout.{Layout}
 use Rattle.layout.specs.Records.{view}
@@ -24,7 +24,7 @@ use Rattle.free_table.specs.ChoosingLaws.{length-raised}
 use Rattle.growth_rules.specs.Steps.{Call}
 use Rattle.growth_rules.specs.Growing.{Effect, Outcome, refusing, growIn, growOf}
 use Rattle.growth_rules.specs.CallFacts.{Changes}
-use Rattle.growth_rules.specs.CallLaws.{call-table, refusal-number}
+use Rattle.growth_rules.specs.CallLaws.{call-table, refused-some}
 use Rattle.growth.specs.declared.Grown.{Grown}
 use Rattle.growth.specs.Answers.{callOf, GrownSays}
 use Rattle.gateway.specs.Host.{hostReading, lentAfter}
@@ -52,11 +52,6 @@ call-length l k =
     (λ (c : Changes l k (growOf l k)). ap length (c .table)
     ∙ length-raised (usable (k .mark)) (length (c .objects)) (k .table))
     (call-table l k)
-
--- No call is refused by 0.
-pub refused-some : (l : Layout) (k : Call) (n : ℕ) → growOf l k .answer ≡ refuses n → 0 < n
-refused-some l k zero e = clash (refusal-number l k 0 e) refl
-refused-some l k (suc n) e = omega arith
 
 -- The words afterwards hold the table that growth gives: nothing of it but the next numbers differs from the words before.
 pub words-afterwards : (l : Layout) (offset mark : ℕ) (ws : List ℕ)

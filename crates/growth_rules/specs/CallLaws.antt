@@ -1,5 +1,5 @@
 -- What a call of growth gives, law by law. What is in quotes is document 01's.
-use Prim.Native.Nat.{ℕ, _+_, _≤_}
+use Prim.Native.Nat.{ℕ, zero, suc, _+_, _≤_, _<_}
 use mathlib.Core.Path.{_≡_, refl, sym, ap}
 use mathlib.Core.List.{List, [], _∷_}
 use mathlib.Core.Logic.{_⊎_, inl, inr}
@@ -55,6 +55,11 @@ module _ (l : Layout) (k : Call) where
   -- "Growth: 1, 10, 15 to 19."
   pub refusal-number : (n : ℕ) → growOf l k .answer ≡ refuses n → elem eqb n growthRefusals ≡ true
   refusal-number n e = refused-number (call-cases l k) n e
+
+  -- No call is refused by 0.
+  pub refused-some : (n : ℕ) → growOf l k .answer ≡ refuses n → 0 < n
+  refused-some zero e = clash (refusal-number 0 e) refl
+  refused-some (suc n) e = omega arith
 
   answered-home : {o : Outcome} → Called l k o → (e : Effect) → o .answer ≡ gives e
       → e .home ≡ isGiven (homeOf (k .offset) (view (o .layout)))

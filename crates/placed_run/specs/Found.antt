@@ -1,11 +1,10 @@
 -- What the reading in place gives: the number that reading into a layout gives and, if that is 0, the layout's
 -- generation, how many components it has, and their places.
-use Prim.Native.Nat.{ℕ, zero, suc, _≤_}
+use Prim.Native.Nat.{ℕ, zero, suc}
 use mathlib.Core.Path.{_≡_, refl, sym, ap, _∙_}
 use mathlib.Core.List.{List}
 use mathlib.Core.Bool.{true, false, cond}
 use native.Mathlib.Omega.{arith}
-use lib.Dec.{eqb, leb}
 use lib.ListN.{length, take, length-map}
 use lib.Seq.{length-take-le}
 use Rattle.layout.specs.declared.Component.{Component}
@@ -13,7 +12,6 @@ use Rattle.layout.specs.declared.Layout.{Layout}
 use Rattle.layout.specs.Records.{view, packed}
 use Rattle.layout.specs.RecordLaws.{view-pack}
 use Rattle.layout.specs.Distinct.{distinctHold}
-use Rattle.layout.specs.Rules.{ruleBroken, valid}
 use Rattle.layout.specs.FactLaws.{valid-facts, facts-keep}
 use Rattle.page.specs.Content.{componentAt}
 use Rattle.collector.specs.Runs.{readRun, hostCut}

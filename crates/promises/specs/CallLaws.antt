@@ -53,12 +53,11 @@ use Rattle.growth_rules.specs.Steps.{Call}
 use Rattle.growth_rules.specs.Growing as growing
 use Rattle.growth_rules.specs.Growing.{stepOf, growOf}
 use Rattle.growth_rules.specs.CallFacts.{Leaves, Changes}
-use Rattle.growth_rules.specs.CallLaws.{refusal-leaves, unchanged-leaves, changed-changes, answer-home}
+use Rattle.growth_rules.specs.CallLaws.{refused-some, refusal-leaves, unchanged-leaves, changed-changes, answer-home}
 use Rattle.growth_rules.specs.AcceptedLaws.{unchanged-home}
 use Rattle.growth.specs.declared.Effect.{Effect}
 use Rattle.growth.specs.declared.GrowOut.the-variants as GrowOut
 use Rattle.growth.specs.Answers.{growSays}
-use Rattle.gateway.specs.HostGrowthLaws.{refused-some}
 use Rattle.promises.specs.Numbers.{Refusal, IsFirst, RefusedBy}
 use Rattle.promises.specs.Calls.{pageInNumbers, layoutOutNumbers, pageOutNumbers, lookupNumbers, backNumbers}
 use Rattle.promises.specs.Calls.{cutNumbers, cutRoom, growthNumbers}

@@ -20,6 +20,7 @@ use Rattle.mapping.specs.Homes.{Home, homeOf}
 use Rattle.mapping.specs.Lookup.{lookupRefusal, homeSays, lookupSays, lookupOf}
 use Rattle.mapping.specs.Back.{backRefusal, byteOf, backSays, backOf}
 use Rattle.mapping.specs.Cutting.{cutRefusal, cutPieces, cutCount, allNumbers, cutSays, cutOf}
+use Rattle.growth_rules.specs.CallLaws.{refused-some}
 use Rattle.growth_rules.specs.Steps.{Call}
 use Rattle.growth_rules.specs.Growing as growing
 use Rattle.growth_rules.specs.Growing.{Outcome}
@@ -33,7 +34,7 @@ use Rattle.gateway.specs.HostLaws.{reading-number, own-number, lent-stays, look
 use Rattle.gateway.specs.HostGrowth.{wordTable, withNextWords, hostGrown, pagesOf, roomNumber, laterNumber, homeNumber}
 use Rattle.gateway.specs.HostGrowth.{growNumber, tableAfter, grownAfter, answerAfter}
 use Rattle.gateway.specs.LentWords.{writtenLength}
-use Rattle.gateway.specs.HostGrowthLaws.{refused-some, words-afterwards}
+use Rattle.gateway.specs.HostGrowthLaws.{words-afterwards}
 
 -- A refusal of the reading comes first.
 first-refused : (pages : List ℕ) (own n : ℕ) → 0 < n → hostReading pages .refusal ≡ n → readingFirst pages own ≡ n

@@ -83,8 +83,8 @@ module _ (l : Layout) (v : valid l ≡ false) where
 pub refused : (c : Collector) → c .layout .complete ≡ false
     → ((b : ℕ) (r : LookupOut) → lookupSays r ≡ lookupOf b (c .layout) → r ≡ LookupOut.Refused 1)
     × ((h : Home) (r : BackOut) → backSays r ≡ backOf h (c .layout) → r ≡ BackOut.Refused 1)
-    × ((a m n : ℕ) (r : CutOut) → cutSays r ≡ cutOf a m n (c .layout) → r ≡ CutOut.Refused 1)
-    × ((k n : ℕ) → outAnswer (outRefusal (c .layout) k n) (writtenPage (c .layout) k) ≡ PageOut.Refused 1)
+    × ((a m room : ℕ) (r : CutOut) → cutSays r ≡ cutOf a m room (c .layout) → r ≡ CutOut.Refused 1)
+    × ((k room : ℕ) → outAnswer (outRefusal (c .layout) k room) (writtenPage (c .layout) k) ≡ PageOut.Refused 1)
     × ((k : Call) (r : GrowOut) → growSays r ≡ growOf (c .layout) k .answer
     → (r ≡ GrowOut.Refused 1) × Leaves (c .layout) k (growOf (c .layout) k))
     × (layoutOut c ≡ record { refusal = 1; layout = noLayout })

@@ -4,9 +4,9 @@
 -- How to read it. A name is a definition (`abbrev`, `unfoldable`, `record` or `data`) of the file in its `use` line;
 -- `abbrev` and `unfoldable` differ only in whether the prover opens the name by itself. A type under `specs.declared`
 -- is a struct or an enum of the code, with its fields or cases. `(x : A) → B` is "B for every x", `×` "and", `↔`
--- "exactly if"; ℕ are the numbers from 0. l is a layout, c a collector, s the bytes of a page, b a file byte, h a home,
--- o an object, p a byte of it, a and m offset and length of a request, k a page's number or a call of growth, n a
--- refusal number.
+-- "exactly if", `≡` "equals", `x .f` the field f of x; ℕ are the numbers from 0. l is a layout, c a collector, s the
+-- bytes of a page (ps of several), b a file byte, h a home, o an object, p a byte of it, a and m offset and length of a
+-- request, k a page's number, a number of pieces or a call of growth (ks several calls), n a refusal number, r an answer.
 -- How it is tied to the code. Each public call is in crates/moorsickle/src/lib.rt. None has a `requires`, and each is
 -- proved to end. The contract says of its answer r what is said here: `lookupSays r ≡ lookupOf b l`, and so on; of
 -- `take_page` r ≡ pageIn c s .answer, of `page_out` r ≡ outAnswer .., and of lent memory that it is what is named here.
@@ -84,8 +84,8 @@ page-out = calls.page-out-refused
 pub outstanding-refused : (c : Collector) → c .layout .complete ≡ false
     → ((b : ℕ) (r : LookupOut) → lookupSays r ≡ lookupOf b (c .layout) → r ≡ LookupOut.Refused 1)
     × ((h : Home) (r : BackOut) → backSays r ≡ backOf h (c .layout) → r ≡ BackOut.Refused 1)
-    × ((a m n : ℕ) (r : CutOut) → cutSays r ≡ cutOf a m n (c .layout) → r ≡ CutOut.Refused 1)
-    × ((k n : ℕ) → outAnswer (outRefusal (c .layout) k n) (writtenPage (c .layout) k) ≡ PageOut.Refused 1)
+    × ((a m room : ℕ) (r : CutOut) → cutSays r ≡ cutOf a m room (c .layout) → r ≡ CutOut.Refused 1)
+    × ((k room : ℕ) → outAnswer (outRefusal (c .layout) k room) (writtenPage (c .layout) k) ≡ PageOut.Refused 1)
     × ((k : Call) (r : GrowOut) → growSays r ≡ growOf (c .layout) k .answer
     → (r ≡ GrowOut.Refused 1) × Leaves (c .layout) k (growOf (c .layout) k))
     × (layoutOut c ≡ record { refusal = 1; layout = noLayout })
@@ -98,7 +98,7 @@ pub lookup : (l : Layout) (b : ℕ)
     × ((n : ℕ) → (lookupSays (LookupOut.Refused n) ≡ lookupOf b l) ↔ RefusedBy n (lookupNumbers l b))
 lookup = calls.lookup-says
 
--- "Back, from target, number and byte p (1, 13, 14)": it gives b exactly if that is the home of b.
+-- "Back: 1, 13, 14." It gives b exactly if the home of b is byte p of the object o.
 pub back : (l : Layout) (o : Object) (p : ℕ)
     → ((b : ℕ) → (backSays (BackOut.At b) ≡ backOf (inObject o p) l)
     ↔ ((valid l ≡ true) × (b < 2 ^ 64) × (homeOf b (view l) ≡ some (inObject o p))))

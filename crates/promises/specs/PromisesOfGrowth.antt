@@ -22,7 +22,6 @@ use Rattle.growth_rules.specs.Steps.{Call}
 use Rattle.growth_rules.specs.Growing.{Effect, growOf}
 use Rattle.growth_rules.specs.CallFacts.{Leaves, Changes}
 use Rattle.growth_rules.specs.CallLaws.{refusal-leaves, unchanged-leaves, changed-changes, change-counted, answer-home}
-use Rattle.growth_rules.specs.AcceptedLaws.{unchanged-home}
 use Rattle.growth_rules.specs.ValidityLaws.{grow-valid}
 use Rattle.growth_rules.specs.Moments.{moments}
 use Rattle.growth_rules.specs.Readings.{bytePiece}
@@ -44,11 +43,6 @@ growth-keeps = refusal-leaves
 pub growth-stays : (l : Layout) (k : Call) (e : Effect) → growOf l k .answer ≡ gives e → e .changed ≡ false
     → Leaves l k (growOf l k)
 growth-stays = unchanged-leaves
-
--- the offset had a home already: "Init: no change, accepted";
-pub growth-needless : (l : Layout) (k : Call) (e : Effect) → growOf l k .answer ≡ gives e → e .changed ≡ false
-    → e .home ≡ true
-growth-needless = unchanged-home
 
 -- one that says that the layout changed changes it by its step, to the components that `Changes` names, with the object
 -- records chosen that it names.

@@ -2,7 +2,6 @@
 use Prim.Native.Nat.{ℕ}
 use mathlib.Core.Path.{_≡_, refl}
 use mathlib.Core.List.{List, [], _∷_}
-use mathlib.Core.Bool.{true}
 use Rattle.bytes_le.specs.Numbers.{u16At, u32At, u64At, i32Of, u16Bytes, u32Bytes, u64Bytes, bitsOf}
 use Rattle.bytes_le.specs.Flags.{isSet, onlyFirst, flagWord}
 use Rattle.layout.specs.declared.Component.{Component}

@@ -1,4 +1,6 @@
 // Little-endian numbers in a slice of bytes, read and written.
+#![tactic(auto)]
+
 ghost use Rattle.std.specs.Prelude.{◌≡◌, ◌+◌, ◌≤◌, ◌<◌, length};
 ghost use Rattle.std.proofs.lemmas.List.Edits.{sets};
 ghost use Rattle.bytes_le.specs.Numbers.{u16_at, u32_at, u64_at, i32_of, i32_at, bits_of, u16_bytes, u32_bytes, u64_bytes};

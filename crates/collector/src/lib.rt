@@ -1,4 +1,6 @@
 // The collector: gathers a layout from pages, one page at a time.
+#![tactic(auto)]
+
 ghost use Rattle.std.specs.Prelude.{◌≡◌, true, false, List, map, ℕ, ◌+◌, ◌≤◌, ◌<◌, length, get_or, take};
 ghost use Rattle.layout.specs.Records.{packed};
 ghost use Rattle.layout.specs.declared.Component.{Component};
@@ -17,14 +19,14 @@ pub mod run;
 
 // What was gathered so far: the number of pages taken, and the components, as the first of a layout. The layout is
 // complete if the last page was among them; with pages outstanding it is not, and no call takes it as a layout.
-#[derive(Drop)]
+#[derive(Clone, Copy)]
 pub struct Collector {
     pub pages: usize,
     pub layout: Layout,
 }
 
 // What a page call answers.
-#[derive(Drop)]
+#[derive(Clone, Copy)]
 pub enum Answer {
     // The page was taken, and more pages are wanted.
     More,
@@ -36,14 +38,14 @@ pub enum Answer {
 
 // What a page call gives: the answer, and the collector afterwards. If the page was refused, it is the collector
 // that was handed in.
-#[derive(Drop)]
+#[derive(Clone, Copy)]
 pub struct Taken {
     pub answer: Answer,
     pub collector: Collector,
 }
 
 // What comes out of a collector: 0 and the layout, or the number of the refusal and a blank layout.
-#[derive(Drop)]
+#[derive(Clone, Copy)]
 pub struct LayoutOut {
     pub refusal: u8,
     pub layout: Layout,
@@ -51,7 +53,7 @@ pub struct LayoutOut {
 
 // What reading a run gives: 0, the number of pages, and the layout; or the number of the first refusal, the number of
 // its page, counted from 0, and a blank layout.
-#[derive(Drop)]
+#[derive(Clone, Copy)]
 pub struct Reading {
     pub refusal: u8,
     pub page: usize,

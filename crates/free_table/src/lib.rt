@@ -1,5 +1,7 @@
 // The free table: what is free on each target and the number of the next object there; which targets are low, which are
 // usable, and which are chosen.
+#![tactic(auto)]
+
 ghost use Rattle.std.specs.Prelude.{◌≡◌, [], ◌∷◌, true, ◌+◌, ◌-◌, ◌≤◌, length, get_or};
 ghost use Rattle.layout.specs.Records.{no_object, records_of};
 ghost use Rattle.free_table.specs.Table.{table_of, with_records, rising, table_ok, free_below, is_low, any_low, usable};
@@ -11,7 +13,7 @@ pub mod raising;
 pub mod scanning;
 
 // A target of the free table: its free bytes, and the number of the next object to be made on it.
-#[derive(Drop)]
+#[derive(Clone, Copy)]
 pub struct TargetRecord {
     pub target: u32,
     pub free: u64,
@@ -20,28 +22,28 @@ pub struct TargetRecord {
 
 // A free table: its records are in the first `count` places. A table has at most 64 records; the place more is there
 // so that a table with too many is told from one with 64.
-#[derive(Drop)]
+#[derive(Clone, Copy)]
 pub struct Table {
     pub count: usize,
     pub records: [TargetRecord; 65],
 }
 
 // The objects on chosen targets: in the first `count` places, the rest blank.
-#[derive(Drop)]
+#[derive(Clone, Copy)]
 pub struct Choice {
     pub count: usize,
     pub objects: [Object; 16],
 }
 
 // Up to 16 targets, in the first `count` places.
-#[derive(Drop)]
+#[derive(Clone, Copy)]
 pub struct Targets {
     pub count: usize,
     pub targets: [u32; 16],
 }
 
 // A scan of the free table, record by record: what a step of growth asks of it, and what is known after some records.
-#[derive(Drop)]
+#[derive(Clone, Copy)]
 pub struct Scan {
     // the number by which the call is refused, 0 if by none so far
     pub refusal: u8,

@@ -13,6 +13,8 @@
 //
 // Offsets, lengths and bytes are counted in bytes, a file byte from the file's start and an object byte from its
 // object's; pages, components and stripes are counted from 0.
+#![tactic(auto)]
+
 ghost use Rattle.std.specs.Prelude.{◌≡◌};
 ghost use Rattle.layout.specs.Rows.{object_of};
 ghost use Rattle.mapping.specs.Homes.{in_object};

@@ -1,5 +1,7 @@
 // Growth: one call makes one step, for the component that holds an offset, and gives the layout and the free table
 // back.
+#![tactic(auto)]
+
 ghost use Rattle.std.specs.Prelude.{◌≡◌, true};
 ghost use Rattle.layout.specs.Rules.{valid};
 ghost use Rattle.growth_rules.specs.Growing.{grow_of, grow_in};
@@ -14,14 +16,14 @@ pub mod outcomes;
 pub mod plans;
 
 // What an accepted call did: does the offset now have a home, and did the layout change?
-#[derive(Drop)]
+#[derive(Clone, Copy)]
 pub struct Effect {
     pub home: bool,
     pub changed: bool,
 }
 
 // What a call of growth answers.
-#[derive(Drop)]
+#[derive(Clone, Copy)]
 pub enum GrowOut {
     // Accepted, with this effect.
     Accepted(Effect),
@@ -31,7 +33,7 @@ pub enum GrowOut {
 
 // What a call of growth gives: its answer, and the layout and the free table afterwards. If it is refused they are
 // those that were handed in.
-#[derive(Drop)]
+#[derive(Clone, Copy)]
 pub struct Grown {
     pub out: GrowOut,
     pub layout: Layout,
@@ -41,7 +43,7 @@ pub struct Grown {
 // What a step puts in place of components. It lacks usable targets, or it changes nothing, or the `old` components
 // from position `at` on give way to `made`, which is init, and to `left` after it if an extension has bytes left.
 // The first `chosen` object records of `made` are newly chosen.
-#[derive(Drop)]
+#[derive(Clone, Copy)]
 pub struct Plan {
     pub lacks: bool,
     pub changes: bool,

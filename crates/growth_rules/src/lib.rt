@@ -1,1 +1,2 @@
 // No code: what a call of growth gives, and what holds over every list of calls.
+#![tactic(auto)]

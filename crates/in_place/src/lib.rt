@@ -1,5 +1,7 @@
 // What is at places in the bytes of pages: the component rules are asked of the bytes themselves, with no component
 // copied out; and if a layout is wanted, it is built from the places.
+#![tactic(auto)]
+
 ghost use Rattle.std.specs.Prelude.{◌≡◌, ◌≤◌, min, length};
 ghost use Rattle.page.specs.Form.{records_at, component_end};
 

@@ -1,4 +1,6 @@
 // The records of a layout and the rules that they keep.
+#![tactic(auto)]
+
 ghost use Rattle.std.specs.Prelude.{◌≡◌, true, ◌≤◌, take};
 ghost use Rattle.layout.specs.Records.{view, outline_of, no_layout, packed};
 ghost use Rattle.layout.specs.Rules.{later_rule_broken, rule_broken, valid};
@@ -10,7 +12,7 @@ pub mod fields;
 pub mod neighbours;
 
 // An object of the store: the target that it lies on, and its number there.
-#[derive(Drop)]
+#[derive(Clone, Copy)]
 pub struct Object {
     pub target: u32,
     pub number: u64,
@@ -18,7 +20,7 @@ pub struct Object {
 
 // A component: its extent [begin, end) in bytes of the file, how it is striped, and, if it is init, an object record
 // for each stripe in the first places of `objects`.
-#[derive(Drop)]
+#[derive(Clone, Copy)]
 pub struct Component {
     pub init: bool,
     pub extension: bool,
@@ -33,7 +35,7 @@ pub struct Component {
 }
 
 // A component as the neighbour rules see it: its extent [begin, end) and its flags.
-#[derive(Drop)]
+#[derive(Clone, Copy)]
 pub struct Neighbour {
     pub init: bool,
     pub extension: bool,
@@ -43,7 +45,7 @@ pub struct Neighbour {
 
 // A layout: its components are in the first `count` places, in the order of the file. `complete` says that these are
 // all of them: no pages are outstanding. A layout that is not complete is not valid.
-#[derive(Drop)]
+#[derive(Clone, Copy)]
 pub struct Layout {
     pub generation: u32,
     pub count: usize,
@@ -111,7 +113,7 @@ pub fn pack(generation: u32, count: usize, components: [Component; 16]) -> Layou
 
 // What the rules beside those of the fields ask of components, in the first places: what the neighbour rules see, and
 // the ids.
-#[derive(Drop)]
+#[derive(Clone, Copy)]
 pub struct Outline {
     pub neighbours: [Neighbour; 16],
     pub ids: [u16; 16],

@@ -1,5 +1,6 @@
 // Lists the layout whose pages are on standard input, each after its length: prints the lines of the layout, or the
 // line of the first refusal.
+#![tactic(auto)]
 
 // It reads the first 65,536 bytes and no more. By the law `listing_first` of crate `listing` the first 8,739 decide the
 // listing: at most 16 pages are taken, and of what follows them only the next page is looked at.

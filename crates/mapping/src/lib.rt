@@ -1,5 +1,7 @@
 // Where file bytes are in the store: the home of a byte, the byte of a home, and requests cut into pieces. Offsets,
 // lengths and bytes are counted in bytes; a file byte from the file's start, an object byte from its object's.
+#![tactic(auto)]
+
 ghost use Rattle.std.specs.Prelude.{◌≡◌, length};
 ghost use Rattle.layout.specs.Records.{view};
 ghost use Rattle.layout.specs.Rows.{object_of};
@@ -17,7 +19,7 @@ pub mod objects;
 pub mod units;
 
 // The home of a file byte in an object: the object's target and its number there, and the byte of the object.
-#[derive(Drop)]
+#[derive(Clone, Copy)]
 pub struct ObjectHome {
     pub target: u32,
     pub number: u64,
@@ -25,7 +27,7 @@ pub struct ObjectHome {
 }
 
 // What a lookup answers.
-#[derive(Drop)]
+#[derive(Clone, Copy)]
 pub enum LookupOut {
     // The byte has this home.
     Found(ObjectHome),
@@ -34,7 +36,7 @@ pub enum LookupOut {
 }
 
 // What the way back answers.
-#[derive(Drop)]
+#[derive(Clone, Copy)]
 pub enum BackOut {
     // The file byte whose home it is.
     At(u64),
@@ -43,7 +45,7 @@ pub enum BackOut {
 }
 
 // What a call answers that cuts a request.
-#[derive(Drop)]
+#[derive(Clone, Copy)]
 pub enum CutOut {
     // The number of pieces, which are in the first lent numbers, five numbers a piece.
     Pieces(u64),
@@ -52,7 +54,7 @@ pub enum CutOut {
 }
 
 // A component as cutting sees it: its init flag, its id, its extent [begin, end) and its striping.
-#[derive(Drop)]
+#[derive(Clone, Copy)]
 pub struct Span {
     pub init: bool,
     pub id: u16,
@@ -64,7 +66,7 @@ pub struct Span {
 
 // A piece of a request: its first file byte and its length, the id of its component, the stripe, counted from 0, and
 // the byte of that stripe's object at which the piece begins.
-#[derive(Drop)]
+#[derive(Clone, Copy)]
 pub struct Piece {
     pub offset: u64,
     pub length: u64,

@@ -8,6 +8,8 @@
 //
 // Offsets, lengths and bytes are counted in bytes, a file byte from the file's start and an object byte from its
 // object's; pages, components and stripes are counted from 0.
+#![tactic(auto)]
+
 ghost use Rattle.std.specs.Prelude.{◌≡◌, length};
 ghost use Rattle.layout.specs.Records.{view};
 ghost use Rattle.layout.specs.Rows.{object_of};
@@ -130,7 +132,7 @@ pub fn cut(l: Layout, offset: u64, bytes: u64, room: &mut [u64]) -> CutOut
 
 // What growth gives beside the lent table: its answer and the layout afterwards, which is the one handed in if the
 // call is refused.
-#[derive(Drop)]
+#[derive(Clone, Copy)]
 pub struct GrownLayout {
     pub out: GrowOut,
     pub layout: Layout,

@@ -1,4 +1,6 @@
 // Writes one page of a layout, by its number, into a lent buffer.
+#![tactic(auto)]
+
 ghost use Rattle.std.specs.Prelude.{◌≡◌, true, ◌+◌, ◌≤◌, length, take, replicate};
 ghost use Rattle.std.proofs.lemmas.List.Edits.{sets};
 ghost use Rattle.std.proofs.Math.Seq.{slice};
@@ -12,7 +14,7 @@ use layout::Layout;
 use page::Head;
 
 // What a call answers that writes a page.
-#[derive(Drop)]
+#[derive(Clone, Copy)]
 pub enum PageOut {
     // The page was written, and has this many bytes.
     Written(usize),

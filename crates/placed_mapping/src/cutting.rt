@@ -13,7 +13,7 @@ ghost use Rattle.placed_mapping.specs.Spans.{spans_at};
 use mapping::{CutOut, Span, cutting};
 
 // What a request asks of components: whether a byte of it lies in one that is not init, and the number of its pieces.
-#[derive(Drop)]
+#[derive(Clone, Copy)]
 struct Asked {
     not_init: bool,
     pieces: u64,

@@ -1,5 +1,7 @@
 // Reads the host's pages in place. The pages are back to back, each ending after the records that its head counts.
 // What is noted of a page is where its components are in the bytes; no component is copied.
+#![tactic(auto)]
+
 ghost use Rattle.std.specs.Prelude.{◌≡◌, List, ℕ, ◌+◌, ◌≤◌, min, length, drop};
 ghost use Rattle.page.specs.Content.{head_of};
 ghost use Rattle.page.specs.Walked.{Walks};
@@ -11,7 +13,7 @@ use page::Head;
 
 // How far a reading has come: the number of a refusal, or 0; where the next page begins; the number of pages taken;
 // their generation; whether more pages are wanted; and how many components the pages taken have.
-#[derive(Drop)]
+#[derive(Clone, Copy)]
 pub struct Progress {
     pub refusal: u8,
     pub at: usize,
@@ -23,7 +25,7 @@ pub struct Progress {
 
 // What reading gives: 0, the generation, and the number of components, whose places then are in the first positions;
 // or the number of the refusal, and 0 and 0.
-#[derive(Drop)]
+#[derive(Clone, Copy)]
 pub struct Found {
     pub refusal: u8,
     pub generation: u32,

@@ -1,6 +1,8 @@
 // Runs every public call of crate `moorsickle`, the calls that take a lent record among them, and prints a line for
 // each answer: document 01's page of 72 bytes, layout B in four pages with pages refused and sent again, the examples a
 // to m, and what each call answers to a broken collector, a broken layout, or a layout with pages outstanding.
+#![tactic(auto)]
+
 mod broken;
 mod growing;
 mod lending;

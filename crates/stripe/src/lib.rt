@@ -1,11 +1,13 @@
 // Round-robin striping: where a file byte is in the objects of its component, and the way back. z is the stripe
 // size in bytes, s the stripe count; a file byte is counted from the file's start, an object byte from its object's.
 // What is in quotes is document 01's.
+#![tactic(auto)]
+
 ghost use Rattle.std.specs.Prelude.{◌≡◌, ◌<◌, ◌≤◌};
 ghost use Rattle.stripe.specs.Stripe.{unit_of, stripe_of, object_byte, file_byte_below, file_byte_says};
 
 // The answer of the way back, from an object byte to its file byte.
-#[derive(Drop)]
+#[derive(Clone, Copy)]
 pub enum FileByte {
     // The file byte.
     At(u64),

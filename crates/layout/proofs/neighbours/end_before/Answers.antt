@@ -1,0 +1,15 @@
+-- `layout::neighbours::end_before` meets its contract: the state after the first i components is the end of the last of them.
+use mathlib.Core.Path.{sym}
+use native.Mathlib.Omega.{arith}
+use Rattle.lists.specs.Loops.{after_before}
+use Rattle.layout.specs.Records.{no_neighbour}
+use Rattle.layout.specs.Neighbours.{end_of}
+use Rattle.layout.proofs.neighbours.end_before.Goals as goal
+
+pub returns-then-i-eq0 : goal.returns-then-i-eq0
+returns-then-i-eq0 c = rw c.if-i-eq0.true
+
+pub returns : goal.returns
+returns c =
+    let a = c.args in
+    sym (after_before end_of 0 a.list a.i no_neighbour (omega arith) (omega arith))

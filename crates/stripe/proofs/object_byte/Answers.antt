@@ -1,0 +1,29 @@
+-- `stripe::object_byte` meets its contract: what it computes is the object byte, which is at most the file byte and so
+-- fits.
+use Prim.Native.Nat.{◌+◌, ◌*◌, ◌/◌, ◌%◌, ◌≤◌}
+use mathlib.Core.Path.{◌≡◌}
+use native.Mathlib.Omega.{arith}
+use Rattle.stripe.specs.Stripe.{object_byte}
+use Rattle.stripe.specs.Laws.{object_byte_le}
+use Rattle.stripe.proofs.object_byte.Goals as goal
+
+-- The sum that is computed is the object byte, and at most the file byte.
+byte : (c : goal.After-unit_of) →
+    let a = c.args in
+    let r = c.unit_of.result / a.s * a.z + a.offset % a.z in
+    (r ≡ object_byte a.z a.s a.offset) × (r ≤ a.offset)
+unfolding object_byte
+byte c =
+    let a = c.args in
+    let r = c.unit_of.result / a.s * a.z + a.offset % a.z in
+    let e : r ≡ object_byte a.z a.s a.offset = rw c.unit_of.ensures in
+    (e, rw e (object_byte_le a.z a.s a.offset))
+
+pub returns : goal.returns
+returns c = (omega (arith, (byte c).0), omega (arith, (byte c).1))
+
+pub overflow_mul-result : goal.overflow_mul-result
+overflow_mul-result c = omega (arith, (byte c).1)
+
+pub overflow_add-result : goal.overflow_add-result
+overflow_add-result c = omega (arith, (byte c).1)

@@ -19,66 +19,63 @@ use Rattle.mapping.specs.Spans.{no_span, span_of, spans_of}
 use Rattle.mapping.specs.Cutting.{cut_in}
 use Rattle.mapping.specs.CuttingLaws.{fields_cuttable}
 
-abbrev invariant-loop : tie.invariant-loop
+abbrev invariant-loop : tie.invariant-loop-i
 invariant-loop offset bytes room l n spans₀ i₀ spans i =
     (i ≤ n) × (n ≤ 16) × (sets spans₀ 0 (spans_of (view l)) ≡ sets spans i (spans_of (slice i n l.components)))
 
-abbrev decreases-loop : tie.decreases-loop
+abbrev decreases-loop : tie.decreases-loop-i
 decreases-loop offset bytes room l n spans₀ i₀ spans i = n - i
 
 -- The layout is valid.
-facts : (c : tie.Start invariant-loop decreases-loop) → Valid c.args.t1
-facts c = valid_facts c.args.t1 c.requires
+facts : (c : tie.Start invariant-loop decreases-loop) → Valid c.args.l
+facts c = valid_facts c.args.l c.requires
 
-loop-holds : tie.Need-loop-init invariant-loop decreases-loop
-loop-holds c = let s = c.before in (search rules, (facts s).few, refl)
+loop-holds : tie.Need-loop-i-init invariant-loop decreases-loop
+loop-holds c = let s = c in (search rules, (facts s.before).few, refl)
 
-loop-again : tie.Need-loop-preserved invariant-loop decreases-loop
+loop-again : tie.Need-loop-i-preserved invariant-loop decreases-loop
 loop-again c =
-    let p = c.before.before in
-    let s = p.before.before in
-    let next = component_next s.args.t1 (facts s) unread p.loop.i c.before.loop-test.true in
-    (omega arith, p.loop.invariant.1, p.loop.invariant.2 ∙ rw (next, add-one) refl)
+    let p = c in
+    let s = p in
+    let next = component_next s.args.l (facts s.before.before.before.before) unread p.loop-i.i c.loop-i-test.true in
+    (omega arith, p.loop-i.invariant.1, p.loop-i.invariant.2 ∙ rw (next, add-one) refl)
 
-sub-last : tie.Need-overflow-sub-last invariant-loop decreases-loop
+sub-last : tie.Need-overflow_sub-last invariant-loop decreases-loop
 sub-last c = omega (arith, (facts c.before.before.before).some)
 
-element-copy-out-last : tie.Need-element-copy-out-last invariant-loop decreases-loop
+element-copy-out-last : tie.Need-bounds-l-n invariant-loop decreases-loop
 element-copy-out-last c =
     let v = facts c.before.before.before in omega (arith, v.some, v.few)
 
 -- After the loop the array holds the components as cutting sees them.
-spans_are : (c : tie.After-loop invariant-loop decreases-loop) → let l = c.before.before.before.args.t1 in
-    take l.count c.before.loop.spans ≡ spans_of (view l)
+spans_are : (c : tie.After-loop-i invariant-loop decreases-loop) → let l = c.args.l in
+    take l.count c.loop-i.spans ≡ spans_of (view l)
 spans_are c =
-    let s = c.before.before.before in
-    let l = s.args.t1 in
-    let v = facts s in
-    let done = slice_done l.components l.count c.before.loop.i c.loop-test.false in
+    let s = c in
+    let l = s.args.l in
+    let v = facts s.before.before.before in
+    let done = slice_done l.components l.count c.loop-i.i c.loop-i-test.false in
     let all = sets (replicate 16 no_span) 0 (spans_of (view l)) in
-    let written : all ≡ c.before.loop.spans = c.before.loop.invariant.2 ∙ rw done refl in
+    let written : all ≡ c.loop-i.spans = c.loop-i.invariant.2 ∙ rw done refl in
     let stored : take (length (view l)) all ≡ spans_of (view l)
     = take_sets_map span_of (replicate 16 no_span) (view l) (omega (arith, v.whole, v.few)) in
     rw (← written) (ap (λ (k : ℕ). take k all) (sym v.whole) ∙ stored)
 
-cut-spans-requires : tie.Need-cut-spans-requires invariant-loop decreases-loop
+cut-spans-requires : tie.Need-cut_spans-requires invariant-loop decreases-loop
 cut-spans-requires c κs =
-    let e = c.before.before in
-    let v = facts e.before.before.before in
-    (v.few, rw (spans_are e) (fields_cuttable (view e.before.before.before.args.t1) v.keeps.fields))
+    let e = c in
+    let v = facts e.before.before.before.before.before in
+    (v.few, rw (spans_are e.before.before) (fields_cuttable (view e.args.l) v.keeps.fields))
 
 returns : tie.Need-returns invariant-loop decreases-loop
 unfolding cut_in
 returns c =
-    let cut = c.before.before in
-    let e = cut.before.before.before in
-    let s = e.before.before.before in
-    let last : last_end (view s.args.t1) ≡ (get_or s.args.t1.components (s.args.t1.count - 1) unread).end
-    = last_end_lem s.args.t1 (facts s) unread in
-    rw (last, ← spans_are e) cut.cut-spans.ensures
+    let cut = c in
+    let e = cut in
+    let s = e in
+    let last : last_end (view s.args.l) ≡ (get_or s.args.l.components (s.args.l.count - 1) unread).end
+    = last_end_lem s.args.l (facts s.before.before.before.before.before.before.before.before) unread in
+    rw (last, ← spans_are e.before.before.before.before.before) cut.cut_spans.ensures
 
 pub cut_valid_spec : {M : Type 1} → statement M
-cut_valid_spec =
-    tie.close (tie.spec invariant-loop decreases-loop loop-holds (λ c. search rules) (λ c. search rules) (λ c. search rules)
-    (λ c. search rules) (λ c. search rules) (λ c. search rules) loop-again sub-last (λ c. search rules)
-    element-copy-out-last cut-spans-requires (λ c. search rules) returns)
+cut_valid_spec = tie.close (tie.spec invariant-loop decreases-loop loop-holds (λ c. search rules) (λ c. search rules) (λ c. search rules) (λ c. search rules) (λ c. search rules) (λ c. search rules) loop-again sub-last (λ c. search rules) element-copy-out-last cut-spans-requires (λ c. search rules) returns)

@@ -20,189 +20,183 @@ use borrow.Author.Rules.{rules}
 use Rattle.collector.proofs.run.read_listed.Statement.{statement}
 use Rattle.collector.proofs.run.read_listed.Tie as tie
 
-abbrev invariant-loop : tie.invariant-loop
+abbrev invariant-loop : tie.invariant-loop-c
 invariant-loop s c₀ at₀ c at = (at ≤ length s) × Held c × (read_run listed_cut s ≡ read_from listed_cut c (drop at s))
 
-abbrev decreases-loop : tie.decreases-loop
+abbrev decreases-loop : tie.decreases-loop-c
 decreases-loop s c₀ at₀ c at = length s - at
 
-loop-holds : tie.Need-loop-init invariant-loop decreases-loop
+loop-holds : tie.Need-loop-c-init invariant-loop decreases-loop
 loop-holds c =
-    let s = c.before.before.args.s.now in
-    let e = c.new-collector.ensures in
+    let s = c.args.s.now in
+    let e = c.new_collector-c.ensures in
     (omega arith, subst Held (sym e) new_held, read_start listed_cut s ∙ ap (λ (x : Collector). read_from listed_cut x s) (sym e))
 
 -- At a turn: the bytes, and those that are left.
-abbrev whole : tie.At-loop invariant-loop decreases-loop → List ℕ
-whole l = l.before.before.before.args.s.now
+abbrev whole : tie.At-loop-c invariant-loop decreases-loop → List ℕ
+whole l = l.args.s.now
 
-abbrev rest : tie.At-loop invariant-loop decreases-loop → List ℕ
-rest l = drop l.loop.at (whole l)
+abbrev rest : tie.At-loop-c invariant-loop decreases-loop → List ℕ
+rest l = drop l.loop-c.at (whole l)
 
-left : (l : tie.At-loop invariant-loop decreases-loop) → length (rest l) ≡ length (whole l) - l.loop.at
-left l = length-drop l.loop.at (whole l)
+left : (l : tie.At-loop-c invariant-loop decreases-loop) → length (rest l) ≡ length (whole l) - l.loop-c.at
+left l = length-drop l.loop-c.at (whole l)
 
 -- What the reading gives from there on is what the whole reading gives.
-gives : (l : tie.At-loop invariant-loop decreases-loop) {r : Reading} → read_from listed_cut l.loop.c (rest l) ≡ r
+gives : (l : tie.At-loop-c invariant-loop decreases-loop) {r : Reading} → read_from listed_cut l.loop-c.c (rest l) ≡ r
     → r ≡ read_run listed_cut (whole l)
-gives l e = sym (l.loop.invariant.2 ∙ e)
+gives l e = sym (l.loop-c.invariant.2 ∙ e)
 
 -- The turn at which pages are still wanted.
-abbrev turn : tie.Then1 invariant-loop decreases-loop → tie.At-loop invariant-loop decreases-loop
+abbrev turn : tie.In-loop-c invariant-loop decreases-loop → tie.At-loop-c invariant-loop decreases-loop
 turn c = c.before.before
 
-wanted : (c : tie.Then1 invariant-loop decreases-loop) → (turn c).loop.c.layout.complete ≡ false
-wanted c = not-true (turn c).loop.c.layout.complete c.if1.true
+wanted : (c : tie.In-loop-c invariant-loop decreases-loop) → (turn c).loop-c.c.layout.complete ≡ false
+wanted c = not-true (turn c).loop-c.c.layout.complete c.loop-c-test.true
 
 -- No whole page comes next.
-no_page : (c : tie.Then1 invariant-loop decreases-loop) → listed_cut (rest (turn c)) ≡ broken
-    → refused_at 3 (turn c).loop.c.pages ≡ read_run listed_cut (whole (turn c))
+no_page : (c : tie.In-loop-c invariant-loop decreases-loop) → listed_cut (rest (turn c)) ≡ broken
+    → refused_at 3 (turn c).loop-c.c.pages ≡ read_run listed_cut (whole (turn c))
 no_page c e =
     let l = turn c in
-    gives l (read_broken l.loop.c l.loop.inv.1 listed_cut (rest l) (wanted c) e)
+    gives l (read_broken l.loop-c.c l.loop-c.invariant.1 listed_cut (rest l) (wanted c) e)
 
-returns : tie.Need-returns invariant-loop decreases-loop
+returns : tie.Need-returns-then-s-at invariant-loop decreases-loop
 returns c =
-    let w = c.before.before in
-    let l = turn w in
+    let w = c in
+    let l = turn w.before.before in
     let n = left l in
-    c.refused-at.ensures
-    ∙ gives l (read_ended l.loop.c l.loop.inv.1 listed_cut (rest l) (wanted w) (listed_ended (rest l) (omega arith)))
+    c.refused_at.ensures
+    ∙ gives l (read_ended l.loop-c.c l.loop-c.invariant.1 listed_cut (rest l) (wanted w.before.before) (listed_ended (rest l) (omega arith)))
 
-returns-2 : tie.Need-returns-2 invariant-loop decreases-loop
+returns-2 : tie.Need-returns-then-s-at-lt2 invariant-loop decreases-loop
 returns-2 c =
-    let w = c.before.before.before in
-    let n = left (turn w) in
-    c.refused-at2.ensures ∙ no_page w (listed_cut_lem (rest (turn w)) (omega arith) (omega arith))
+    let w = c in
+    let n = left (turn w.before.before.before) in
+    c.refused_at-then-s-at-lt2.ensures ∙ no_page w.before.before.before (listed_cut_lem (rest (turn w.before.before.before)) (omega arith) (omega arith))
 
 -- A length was read: the turn, and the length that comes first in the bytes that are left.
-abbrev lengthened : tie.After-u16-at invariant-loop decreases-loop → tie.Then1 invariant-loop decreases-loop
+abbrev lengthened : tie.After-u16_at-length invariant-loop decreases-loop → tie.In-loop-c invariant-loop decreases-loop
 lengthened u = u.before.before.before
 
-read_length : (u : tie.After-u16-at invariant-loop decreases-loop) → u.u16-at.result ≡ u16_at (rest (turn (lengthened u))) 0
+read_length : (u : tie.After-u16_at-length invariant-loop decreases-loop) → u.u16_at-length.result ≡ u16_at (rest (turn (lengthened u))) 0
 read_length u =
     let l = turn (lengthened u) in
-    u.u16-at.ensures ∙ sym (length_at (whole l) l.loop.at)
+    u.u16_at-length.ensures ∙ sym (length_at (whole l) l.loop-c.at)
 
-returns-3 : tie.Need-returns-3 invariant-loop decreases-loop
+returns-3 : tie.Need-returns-then-length-gt512 invariant-loop decreases-loop
 returns-3 c =
-    let u = c.before.before in
-    let w = lengthened u in
+    let u = c in
+    let w = lengthened u.before.before in
     let n = left (turn w) in
-    let k = read_length u in
-    c.refused-at3.ensures ∙ no_page w (listed_long (rest (turn w)) (omega arith) (omega arith) (omega arith))
+    let k = read_length u.before.before in
+    c.refused_at-then-length-gt512.ensures ∙ no_page w (listed_long (rest (turn w)) (omega arith) (omega arith) (omega arith))
 
-returns-4 : tie.Need-returns-4 invariant-loop decreases-loop
+returns-4 : tie.Need-returns-then-s-from invariant-loop decreases-loop
 returns-4 c =
-    let u = c.before.before.before in
-    let w = lengthened u in
+    let u = c in
+    let w = lengthened u.before.before.before in
     let n = left (turn w) in
-    let k = read_length u in
-    c.refused-at4.ensures
+    let k = read_length u.before.before.before in
+    c.refused_at-then-s-from.ensures
     ∙ no_page w (listed_short (rest (turn w)) (omega arith) (omega arith) (omega arith) (omega arith))
 
 -- A page was taken: the state after its length was read.
-abbrev measured : tie.After-take-next invariant-loop decreases-loop → tie.After-u16-at invariant-loop decreases-loop
+abbrev measured : tie.After-take_next-taken invariant-loop decreases-loop → tie.After-u16_at-length invariant-loop decreases-loop
 measured c = c.before.before.before.before
 
-take-next-requires : tie.Need-take-next-requires invariant-loop decreases-loop
+take-next-requires : tie.Need-take_next-taken-requires invariant-loop decreases-loop
 take-next-requires c κs =
     let l = turn (lengthened c.before.before.before) in
-    facts_sound l.loop.c l.loop.inv.1.sound
+    facts_sound l.loop-c.c l.loop-c.invariant.1.sound
 
 -- The page that was cut from the bytes, the bytes after it, and what taking it gives.
-abbrev page-of : tie.After-take-next invariant-loop decreases-loop → List ℕ
+abbrev page-of : tie.After-take_next-taken invariant-loop decreases-loop → List ℕ
 page-of c =
     let l = turn (lengthened (measured c)) in
-    take (measured c).u16-at.result (drop (l.loop.at + 2) (whole l))
+    take (measured c).u16_at-length.result (drop (l.loop-c.at + 2) (whole l))
 
-abbrev rest_of : tie.After-take-next invariant-loop decreases-loop → List ℕ
+abbrev rest_of : tie.After-take_next-taken invariant-loop decreases-loop → List ℕ
 rest_of c =
     let l = turn (lengthened (measured c)) in
-    drop (l.loop.at + 2 + (measured c).u16-at.result) (whole l)
+    drop (l.loop-c.at + 2 + (measured c).u16_at-length.result) (whole l)
 
-taken_is : (c : tie.After-take-next invariant-loop decreases-loop)
-    → c.take_next.result ≡ open_in (turn (lengthened (measured c))).loop.c (page-of c)
+taken_is : (c : tie.After-take_next-taken invariant-loop decreases-loop)
+    → c.take_next-taken.result ≡ open_in (turn (lengthened (measured c))).loop-c.c (page-of c)
 taken_is c =
     let l = turn (lengthened (measured c)) in
-    let from = l.loop.at + 2 in
-    let n = (measured c).u16-at.result in
+    let from = l.loop-c.at + 2 in
+    let n = (measured c).u16_at-length.result in
     let e : from + n - from ≡ n = omega arith in
-    c.take_next.ensures ∙ ap (λ (m : ℕ). open_in l.loop.c (take m (drop from (whole l)))) e
+    c.take_next-taken.ensures ∙ ap (λ (m : ℕ). open_in l.loop-c.c (take m (drop from (whole l)))) e
 
-cut_is : (c : tie.After-take-next invariant-loop decreases-loop)
+cut_is : (c : tie.After-take_next-taken invariant-loop decreases-loop)
     → listed_cut (rest (turn (lengthened (measured c)))) ≡ next (page-of c) (rest_of c)
 cut_is c =
     let l = turn (lengthened (measured c)) in
-    listed_next_at (whole l) l.loop.at (measured c).u16-at.result (measured c).u16-at.ensures
+    listed_next_at (whole l) l.loop-c.at (measured c).u16_at-length.result (measured c).u16_at-length.ensures
     (omega arith) (omega arith) (omega arith)
 
-number_is : (c : tie.After-number-of invariant-loop decreases-loop)
-    → number_of (open_in (turn (lengthened (measured c.before))).loop.c (page-of c.before)).answer ≡ c.number_of_lem.result
-number_is c = sym (c.number_of_lem.ensures ∙ ap (λ (r : Taken). number_of r.answer) (taken_is c.before))
+number_is : (c : tie.After-number_of-number invariant-loop decreases-loop)
+    → number_of (open_in (turn (lengthened (measured c.before))).loop-c.c (page-of c.before)).answer ≡ c.number_of-number.result
+number_is c = sym (c.number_of-number.ensures ∙ ap (λ (r : Taken). number_of r.answer) (taken_is c.before))
 
-returns-5 : tie.Need-returns-5 invariant-loop decreases-loop
+returns-5 : tie.Need-returns-then-number-ne0 invariant-loop decreases-loop
 returns-5 c =
-    let m = c.before.before in
-    let q = m.before in
-    let w = lengthened (measured q) in
+    let m = c in
+    let q = m in
+    let w = lengthened (measured q.before.before.before) in
     let l = turn w in
-    c.refused-at5.ensures
-    ∙ gives l (read_refused l.loop.c l.loop.inv.1 listed_cut (rest l) (wanted w) (page-of q) (rest_of q) (cut_is q)
-    m.number_of_lem.result (number_is m) (omega arith))
+    c.refused_at-then-number-ne0.ensures
+    ∙ gives l (read_refused l.loop-c.c l.loop-c.invariant.1 listed_cut (rest l) (wanted w) (page-of q.before.before.before) (rest_of q.before.before.before) (cut_is q.before.before.before)
+    m.number_of-number.result (number_is m.before.before) (omega arith))
 
 -- The page was taken by no number: the reading goes on from there.
-goes_on_lem : (c : tie.After-take-next invariant-loop decreases-loop) →
+goes_on_lem : (c : tie.After-take_next-taken invariant-loop decreases-loop) →
     (let l = turn (lengthened (measured c)) in
-    number_of (open_in l.loop.c (page-of c)).answer ≡ 0 → Held c.take_next.result.collector
-    × (read_run listed_cut (whole l) ≡ read_from listed_cut c.take_next.result.collector (rest_of c)))
+    number_of (open_in l.loop-c.c (page-of c)).answer ≡ 0 → Held c.take_next-taken.result.collector
+    × (read_run listed_cut (whole l) ≡ read_from listed_cut c.take_next-taken.result.collector (rest_of c)))
 goes_on_lem c k =
     let w = lengthened (measured c) in
     let l = turn w in
-    let p = l.loop.c in
-    let held = l.loop.inv.1 in
-    let e : (open_in p (page-of c)).collector ≡ c.take_next.result.collector =
+    let p = l.loop-c.c in
+    let held = l.loop-c.invariant.1 in
+    let e : (open_in p (page-of c)).collector ≡ c.take_next-taken.result.collector =
     sym (ap (λ (r : Taken). r.collector) (taken_is c)) in (
       subst Held e (taken_held p held (page-of c) k),
-      l.loop.inv.2 ∙ read_taken p held listed_cut (rest l) (wanted w) (page-of c) (rest_of c) (cut_is c) k
+      l.loop-c.invariant.2 ∙ read_taken p held listed_cut (rest l) (wanted w) (page-of c) (rest_of c) (cut_is c) k
           ∙ ap (λ (y : Collector). read_from listed_cut y (rest_of c)) e,
     )
 
-loop-again : tie.Need-loop-preserved invariant-loop decreases-loop
+loop-again : tie.Need-loop-c-preserved invariant-loop decreases-loop
 loop-again c =
     let k = goes_on_lem c.before.before.before (number_is c.before.before ∙ omega arith) in
     (omega arith, k.0, k.1)
 
 -- No page is wanted: the reading is closed.
-closes : (c : tie.Else1 invariant-loop decreases-loop) → (let l = c.before.before in
-    closed l.loop.c (rest l) ≡ read_run listed_cut (whole l))
+closes : (c : tie.After-loop-c invariant-loop decreases-loop) → (let l = c in
+    closed l.loop-c.c (rest l.before.before) ≡ read_run listed_cut (whole l.before.before))
 closes c =
-    let l = c.before.before in
-    let p = l.loop.c in
-    gives l (read_closed p l.loop.invariant.1 listed_cut (rest l) (not-false p.layout.complete c.if1.false))
+    let l = c in
+    let p = l.loop-c.c in
+    gives l.before.before (read_closed p l.loop-c.invariant.1 listed_cut (rest l.before.before) (not-false p.layout.complete c.loop-c-test.false))
 
-returns-6 : tie.Need-returns-6 invariant-loop decreases-loop
+returns-6 : tie.Need-returns-then-at-s invariant-loop decreases-loop
 returns-6 c =
-    let b = c.before.before in
-    let l = b.before.before in
-    let n = left l in
-    c.refused-at6.ensures ∙ sym (closed_more l.loop.c (rest l) (omega arith)) ∙ closes b
+    let b = c in
+    let l = b in
+    let n = left l.before.before.before.before in
+    c.refused_at-then-at-s.ensures ∙ sym (closed_more l.loop-c.c (rest l.before.before.before.before) (omega arith)) ∙ closes b.before.before
 
 finished-requires : tie.Need-finished-requires invariant-loop decreases-loop
-finished-requires c κs = c.before.before.before.loop.invariant.1.sound.few
+finished-requires c κs = c.loop-c.invariant.1.sound.few
 
-returns-7 : tie.Need-returns-7 invariant-loop decreases-loop
+returns-7 : tie.Need-returns invariant-loop decreases-loop
 returns-7 c =
-    let b = c.before.before in
-    let l = b.before.before in
-    let n = left l in
-    c.finished.ensures ∙ sym (closed_none l.loop.c (rest l) (omega arith)) ∙ closes b
+    let b = c in
+    let l = b in
+    let n = left l.before.before.before.before in
+    c.finished.ensures ∙ sym (closed_none l.loop-c.c (rest l.before.before.before.before) (omega arith)) ∙ closes b.before.before
 
 pub read_listed_spec : {M : Type 1} → statement M
-read_listed_spec =
-    tie.close (tie.spec invariant-loop decreases-loop (λ c κs. search rules) loop-holds (λ c κs. search rules) returns
-    (λ c. search rules) (λ c κs. search rules) returns-2 (λ c κs. search rules) (λ c. search rules)
-    (λ c κs. search rules) returns-3 (λ c. search rules) (λ c. search rules) (λ c κs. search rules) returns-4
-    (λ c. search rules) (λ c. search rules) (λ c. search rules) (λ c. search rules) take-next-requires
-    (λ c κs. search rules) (λ c κs. search rules) returns-5 (λ c. search rules) loop-again (λ c κs. search rules)
-    returns-6 finished-requires returns-7)
+read_listed_spec = tie.close (tie.spec invariant-loop decreases-loop (λ c κs. search rules) loop-holds (λ c κs. search rules) returns (λ c. search rules) (λ c κs. search rules) returns-2 (λ c κs. search rules) (λ c. search rules) (λ c κs. search rules) returns-3 (λ c. search rules) (λ c. search rules) (λ c κs. search rules) returns-4 (λ c. search rules) (λ c. search rules) (λ c. search rules) (λ c. search rules) take-next-requires (λ c κs. search rules) (λ c κs. search rules) returns-5 (λ c. search rules) loop-again (λ c κs. search rules) returns-6 finished-requires returns-7)

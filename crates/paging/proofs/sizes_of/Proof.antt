@@ -28,7 +28,7 @@ loop-again c =
     let l = s.args.l in
     let h : length l.components ≡ 16 = s.well_formed.0.1.1.1.1.0.1.0.1 in
     let next = slice_next l.components l.count p.loop-i.i unread turn.loop-i-test.true (omega arith) in
-    (omega arith, p.loop-i.invariant.1 ∙ rw (next, add-one, c.type_size.ensures.0))
+    (omega arith, p.loop-i.invariant.1 ∙ rw (next, add-one, c.size_of.ensures.0))
 
 returns : tie.Need-returns invariant-loop decreases-loop
 returns c =

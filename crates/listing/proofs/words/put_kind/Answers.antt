@@ -1,0 +1,22 @@
+-- `listing::words::put_kind` meets its contract: by the two flags.
+use native.Mathlib.Omega.{arith}
+use Rattle.listing.specs.Listing.{kind_word}
+use Rattle.listing.proofs.words.put_kind.Goals as goal
+
+pub returns-then-init : goal.returns-then-init
+unfolding kind_word
+returns-then-init c =
+    let call = c in
+    rw call.if-init.true (call.put_text.ensures.0, omega arith)
+
+pub returns-then-extension : goal.returns-then-extension
+unfolding kind_word
+returns-then-extension c =
+    let test = c in
+    rw (test.if-init.false, test.if-extension.true) (c.put_text-then-extension.ensures.0, omega arith)
+
+pub returns : goal.returns
+unfolding kind_word
+returns c =
+    let test = c in
+    rw (test.if-init.false, test.if-extension.false) (c.put_text-2.ensures.0, omega arith)

@@ -17,7 +17,7 @@ use Rattle.placed_mapping.proofs.Turns.{turn_cuttable, turn_asked, turn_count}
 use Rattle.placed_mapping.proofs.cutting.asked_of.Statement.{statement}
 use Rattle.placed_mapping.proofs.cutting.asked_of.Tie as tie
 
-abbrev invariant-loop : tie.invariant-loop
+abbrev invariant-loop : tie.invariant-loop-i
 invariant-loop s places n offset stop not-init₀ pieces₀ i₀ not_init pieces i =
     (i ≤ n)
     × (pieces ≤ i * 2 ^ 48)
@@ -26,55 +26,52 @@ invariant-loop s places n offset stop not-init₀ pieces₀ i₀ not_init pieces
     × (piece_count offset stop (spans_at s (take n places))
     ≡ pieces + piece_count offset stop (spans_at s (slice i n places)))
 
-abbrev decreases-loop : tie.decreases-loop
+abbrev decreases-loop : tie.decreases-loop-i
 decreases-loop s places n offset stop not-init₀ pieces₀ i₀ not_init pieces i = n - i
 
-loop-holds : tie.Need-loop-init invariant-loop decreases-loop
+loop-holds : tie.Need-loop-i-init invariant-loop decreases-loop
 loop-holds c = (search rules, search rules, refl, sym (zero-add _))
 
 -- The component at place i ends by the end of the bytes.
-within : (c : tie.In-loop invariant-loop decreases-loop) → let a = c.before.before.before.args in
-    component_end a.pages.now (get_or a.places.now c.before.loop.i 0) ≤ length a.pages.now
-within c = c.before.before.before.requires.0.2 c.before.loop.i c.loop-test.true
+within : (c : tie.In-loop-i invariant-loop decreases-loop) → let a = c.args in
+    component_end a.pages.now (get_or a.places.now c.loop-i.i 0) ≤ length a.pages.now
+within c = c.requires.0.2 c.loop-i.i c.loop-i-test.true
 
-part-count-requires : tie.Need-part-count-requires invariant-loop decreases-loop
+part-count-requires : tie.Need-part_count-pieces-requires invariant-loop decreases-loop
 part-count-requires c κs =
-    let turn = c.before.before.before in
-    let s = turn.before.before.before in
+    let turn = c in
+    let s = turn in
     let a = s.args in
-    turn_cuttable a.pages.now a.places.now a.n s.requires.0 s.requires.1 turn.before.loop.i
-    turn.loop-test.true a.offset a.stop c.before.span-at.result c.before.span-at.ensures
+    turn_cuttable a.pages.now a.places.now a.n s.requires.0 s.requires.1 turn.loop-i.i
+    turn.loop-i-test.true a.offset a.stop c.span_at-c.result c.span_at-c.ensures
 
-add-pieces : tie.Need-overflow-add-pieces invariant-loop decreases-loop
-add-pieces c = omega (arith, c.part_count.ensures.1)
+add-pieces : tie.Need-overflow_add-pieces invariant-loop decreases-loop
+add-pieces c = omega (arith, c.part_count-pieces.ensures.1)
 
-loop-again : tie.Need-loop-preserved invariant-loop decreases-loop
+loop-again : tie.Need-loop-i-preserved invariant-loop decreases-loop
 loop-again c =
-    let x = c.before.before.span-at in
-    let turn = c.before.before.before.before in
-    let p = turn.before in
-    let s = p.before.before in
+    let x = c.span_at-c in
+    let turn = c in
+    let p = turn in
+    let s = p in
     let a = s.args in
-    let asked = turn_asked a.pages.now a.places.now a.n s.requires.0 s.requires.1 p.loop.i
-    turn.loop-test.true a.offset a.stop x.result x.ensures p.loop.not-init
-    c.before.not-init-asked.result c.before.not-init-asked.ensures in
-    let count = turn_count a.pages.now a.places.now a.n s.requires.0 s.requires.1 p.loop.i
-    turn.loop-test.true a.offset a.stop x.result x.ensures in (
+    let asked = turn_asked a.pages.now a.places.now a.n s.requires.0 s.requires.1 p.loop-i.i
+    turn.loop-i-test.true a.offset a.stop x.result x.ensures p.loop-i.not_init
+    c.not_init_asked-not_init.result c.not_init_asked-not_init.ensures in
+    let count = turn_count a.pages.now a.places.now a.n s.requires.0 s.requires.1 p.loop-i.i
+    turn.loop-i-test.true a.offset a.stop x.result x.ensures in (
       omega arith,
-      omega (arith, c.part_count.ensures.1),
-      p.loop.invariant.2 ∙ asked,
-      omega (arith, c.part_count.ensures.0, count, p.loop.invariant.3),
+      omega (arith, c.part_count-pieces.ensures.1),
+      p.loop-i.invariant.2 ∙ asked,
+      omega (arith, c.part_count-pieces.ensures.0, count, p.loop-i.invariant.3),
     )
 
 returns : tie.Need-returns invariant-loop decreases-loop
 returns c =
-    let p = c.before in
-    let a = p.before.before.args in
-    let done = spans_done a.pages.now a.places.now a.n p.loop.i c.loop-test.false in
-    (sym (p.loop.invariant.2 ∙ rw done (or-false _)), sym (p.loop.invariant.3 ∙ rw done (add-zero _)))
+    let p = c in
+    let a = p.args in
+    let done = spans_done a.pages.now a.places.now a.n p.loop-i.i c.loop-i-test.false in
+    (sym (p.loop-i.invariant.2 ∙ rw done (or-false _)), sym (p.loop-i.invariant.3 ∙ rw done (add-zero _)))
 
 pub asked_of_spec : {M : Type 1} → statement M
-asked_of_spec =
-    tie.close (tie.spec invariant-loop decreases-loop loop-holds (λ c. search rules) (λ c. search rules)
-    (λ c κs. within c.before) (λ c κs. search rules) part-count-requires add-pieces (λ c. search rules)
-    (λ c. search rules) loop-again returns)
+asked_of_spec = tie.close (tie.spec invariant-loop decreases-loop loop-holds (λ c. search rules) (λ c. search rules) (λ c κs. within c.before.before) (λ c κs. search rules) part-count-requires add-pieces (λ c. search rules) (λ c. search rules) loop-again returns)

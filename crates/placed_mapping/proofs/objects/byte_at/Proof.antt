@@ -9,39 +9,36 @@ use Rattle.placed_mapping.proofs.objects.byte_at.Statement.{statement}
 use Rattle.placed_mapping.proofs.objects.byte_at.Tie as tie
 
 -- The numbers that were read are the component's begin, end, stripe size and stripe count.
-read : (c : tie.After-u16-at) → let size = c.before in let end = size.before in let begin = end.before in
-    let a = begin.before.before.before.args in
+read : (c : tie.After-u16_at) → let size = c in let end = size in let begin = end in
+    let a = begin.args in
     let x = component_at a.pages.now a.at in
-    (x.begin ≡ begin.u64-at.result)
-    × (x.end ≡ end.u64-at2.result)
-    × (x.stripe_size ≡ size.u32-at.result)
-    × (x.stripe_count ≡ c.u16-at.result)
+    (x.begin ≡ begin.u64_at.result)
+    × (x.end ≡ end.u64_at-2.result)
+    × (x.stripe_size ≡ size.u32_at.result)
+    × (x.stripe_count ≡ c.u16_at.result)
 read c =
-    let size = c.before in
-    let end = size.before in
-    let begin = end.before in
-    let a = begin.before.before.before.args in
+    let size = c in
+    let end = size in
+    let begin = end in
+    let a = begin.args in
     let s = a.pages.now in (
-      begin_at s a.at ∙ sym begin.u64-at.ensures,
-      end_at s a.at ∙ sym end.u64-at2.ensures,
-      stripe_size_at s a.at ∙ sym size.u32-at.ensures,
-      stripe_count_at s a.at ∙ sym c.u16-at.ensures,
+      begin_at s a.at ∙ sym begin.u64_at.ensures,
+      end_at s a.at ∙ sym end.u64_at-2.ensures,
+      stripe_size_at s a.at ∙ sym size.u32_at.ensures,
+      stripe_count_at s a.at ∙ sym c.u16_at.ensures,
     )
 
-byte-within-requires : tie.Need-byte-within-requires
+byte-within-requires : tie.Need-byte_within-requires
 byte-within-requires c κs =
-    let k = c.before.before.before.before.before.before.requires.1.striped in
+    let k = c.requires.1.striped in
     (omega (arith, k.size.nonzero, (read c).2), omega (arith, k.some, (read c).3))
 
 returns : tie.Need-returns
 unfolding file_byte_in
 returns c =
-    let stripe = c.before.before.before.before.before in
+    let stripe = c in
     let r = read c.before in
-    rw (← stripe.position_at.ensures.0, r.0, r.1, r.2, r.3) c.byte-within.ensures
+    rw (← stripe.position_at-stripe.ensures.0, r.0, r.1, r.2, r.3) c.byte_within.ensures
 
 pub byte_at_spec : {M : Type 1} → statement M
-byte_at_spec =
-    tie.close (tie.spec (λ c κs. search rules) (λ c. search rules) (λ c κs. search rules) (λ c. search rules)
-    (λ c κs. search rules) (λ c. search rules) (λ c κs. search rules) (λ c. search rules) (λ c κs. search rules)
-    (λ c. search rules) byte-within-requires returns)
+byte_at_spec = tie.close (tie.spec (λ c κs. search rules) (λ c. search rules) (λ c κs. search rules) (λ c. search rules) (λ c κs. search rules) (λ c. search rules) (λ c κs. search rules) (λ c. search rules) (λ c κs. search rules) (λ c. search rules) byte-within-requires returns)

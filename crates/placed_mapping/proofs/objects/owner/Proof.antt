@@ -25,71 +25,68 @@ use Rattle.placed_mapping.proofs.Turns.{first_here, first_later, first_none}
 use Rattle.placed_mapping.proofs.objects.owner.Statement.{statement}
 use Rattle.placed_mapping.proofs.objects.owner.Tie as tie
 
-abbrev invariant-loop : tie.invariant-loop
+abbrev invariant-loop : tie.invariant-loop-i
 invariant-loop s places n target number i₀ i =
     (i ≤ n)
     × (owner_of (object_of target number) (components_at s (take n places))
     ≡ i + owner_of (object_of target number) (components_at s (slice i n places)))
 
-abbrev decreases-loop : tie.decreases-loop
+abbrev decreases-loop : tie.decreases-loop-i
 decreases-loop s places n target number i₀ i = n - i
 
-loop-holds : tie.Need-loop-init invariant-loop decreases-loop
+loop-holds : tie.Need-loop-i-init invariant-loop decreases-loop
 loop-holds c = (search rules, sym (zero-add _))
 
 -- The component at place i has the object exactly if its position is below the number of object records.
-has : (c : tie.After-record-count invariant-loop decreases-loop) → let p = c.before.before.before.before in
-    let a = p.before.before.args in
+has : (c : tie.After-record_count invariant-loop decreases-loop) → let p = c in
+    let a = p.args in
     elem same_object (object_of a.target a.number)
-    (records_of (component_at a.pages.now (get_or a.places.now p.loop.i 0)))
-    ≡ ltb c.before.position_at.result c.record-count.result
+    (records_of (component_at a.pages.now (get_or a.places.now p.loop-i.i 0)))
+    ≡ ltb c.position_at.result c.record_count.result
 has c =
-    let p = c.before.before.before.before in
-    let a = p.before.before.args in
-    let at = get_or a.places.now p.loop.i 0 in
+    let p = c in
+    let a = p.args in
+    let at = get_or a.places.now p.loop-i.i 0 in
     position_elem (object_of a.target a.number) (records_of (component_at a.pages.now at))
-    ∙ rw (← c.before.position_at.ensures.0, records_length, ← c.record-count.ensures.0)
+    ∙ rw (← c.position_at.ensures.0, records_length, ← c.record_count.ensures.0)
 
 -- The test of a component.
 abbrev owns : tie.Start invariant-loop decreases-loop → Component → Bool
 owns c x = elem same_object (object_of c.args.target c.args.number) (records_of x)
 
-returns : tie.Need-returns invariant-loop decreases-loop
+returns : tie.Need-returns-then-position_at-record_count invariant-loop decreases-loop
 returns c =
-    let turn = c.before.before.before.before in
-    let s = turn.before.before.before in
+    let turn = c in
+    let s = turn in
     let a = s.args in (
-      first_here a.pages.now a.places.now a.n s.requires.0 s.requires.1 (owns s) _ _ turn.before.loop.invariant.1
-          turn.loop-test.true (has c.before ∙ lt-ltb _ _ c.if1.true),
+      first_here a.pages.now a.places.now a.n s.requires.0 s.requires.1 (owns s.before.before.before.before.before.before.before.before) _ _ turn.loop-i.invariant.1
+          turn.loop-i-test.true (has c.before ∙ lt-ltb _ _ c.if-position_at-record_count.true),
       omega arith,
     )
 
-loop-again : tie.Need-loop-preserved invariant-loop decreases-loop
+loop-again : tie.Need-loop-i-preserved invariant-loop decreases-loop
 loop-again c =
-    let turn = c.before.before.before.before in
-    let s = turn.before.before.before in
+    let turn = c in
+    let s = turn in
     let a = s.args in (
       omega arith,
-      first_later a.pages.now a.places.now a.n s.requires.0 s.requires.1 (owns s) _ _ turn.before.loop.invariant.1
-          turn.loop-test.true (has c.before ∙ le-ltb _ _ c.if1.false),
+      first_later a.pages.now a.places.now a.n s.requires.0 s.requires.1 (owns s.before.before.before.before.before.before.before.before) _ _ turn.loop-i.invariant.1
+          turn.loop-i-test.true (has c.before ∙ le-ltb _ _ c.if-position_at-record_count.false),
     )
 
-returns-2 : tie.Need-returns-2 invariant-loop decreases-loop
+returns-2 : tie.Need-returns invariant-loop decreases-loop
 returns-2 c =
-    let s = c.before.before.before in
+    let s = c in
     let a = s.args in (
-      first_none a.pages.now a.places.now a.n s.requires.0 s.requires.1 (owns s) _ _ c.before.loop.invariant.1
-          c.loop-test.false,
+      first_none a.pages.now a.places.now a.n s.requires.0 s.requires.1 (owns s.before.before.before) _ _ c.loop-i.invariant.1
+          c.loop-i-test.false,
       omega arith,
     )
 
 -- The component at place i ends by the end of the bytes.
-within : (c : tie.In-loop invariant-loop decreases-loop) → let a = c.before.before.before.args in
-    component_end a.pages.now (get_or a.places.now c.before.loop.i 0) ≤ length a.pages.now
-within c = c.before.before.before.requires.0.2 c.before.loop.i c.loop-test.true
+within : (c : tie.In-loop-i invariant-loop decreases-loop) → let a = c.args in
+    component_end a.pages.now (get_or a.places.now c.loop-i.i 0) ≤ length a.pages.now
+within c = c.requires.0.2 c.loop-i.i c.loop-i-test.true
 
 pub owner_spec : {M : Type 1} → statement M
-owner_spec =
-    tie.close (tie.spec invariant-loop decreases-loop loop-holds (λ c. search rules) (λ c. search rules)
-    (λ c κs. within c.before) (λ c κs. within c.before.before) returns (λ c. search rules) (λ c. search rules)
-    loop-again returns-2)
+owner_spec = tie.close (tie.spec invariant-loop decreases-loop loop-holds (λ c. search rules) (λ c. search rules) (λ c κs. within c.before.before) (λ c κs. within c.before.before.before) returns (λ c. search rules) (λ c. search rules) loop-again returns-2)

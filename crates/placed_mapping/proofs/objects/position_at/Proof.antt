@@ -15,58 +15,55 @@ use Rattle.mapping.specs.Back.{position_in}
 use Rattle.placed_mapping.proofs.objects.position_at.Statement.{statement}
 use Rattle.placed_mapping.proofs.objects.position_at.Tie as tie
 
-abbrev invariant-loop : tie.invariant-loop
+abbrev invariant-loop : tie.invariant-loop-i
 invariant-loop s at target number n i₀ i =
     (i ≤ n)
     × (position_in (object_of target number) (records_of (component_at s at))
     ≡ i + position_in (object_of target number) (objects_at (n - i) s (at + 40 + 16 * i)))
 
-abbrev decreases-loop : tie.decreases-loop
+abbrev decreases-loop : tie.decreases-loop-i
 decreases-loop s at target number n i₀ i = n - i
 
-loop-holds : tie.Need-loop-init invariant-loop decreases-loop
+loop-holds : tie.Need-loop-i-init invariant-loop decreases-loop
 loop-holds c =
-    (search rules, rw (component_records, ← c.record-count.ensures.0, zero-add, add-zero, sub-zero))
+    (search rules, rw (component_records, ← c.record_count-n.ensures.0, zero-add, add-zero, sub-zero))
 
 -- The object records from i on are record i and those after it.
-next : (c : tie.In-loop invariant-loop decreases-loop) → let i = c.before.loop.i in
-    let n = c.before.before.record-count.result in
-    let a = c.before.before.before.before.args in
+next : (c : tie.In-loop-i invariant-loop decreases-loop) → let i = c.loop-i.i in
+    let n = c.record_count-n.result in
+    let a = c.args in
     objects_at (n - i) a.pages.now (a.at + 40 + 16 * i)
     ≡ object_at a.pages.now (a.at + 40 + 16 * i) ∷ objects_at (n - (i + 1)) a.pages.now (a.at + 40 + 16 * (i + 1))
 next c =
-    let a = c.before.before.before.before.args in
-    objects_at_turn a.pages.now (a.at + 40) c.before.before.record-count.result c.before.loop.i
-    c.loop-test.true
+    let a = c.args in
+    objects_at_turn a.pages.now (a.at + 40) c.record_count-n.result c.loop-i.i
+    c.loop-i-test.true
 
-returns : tie.Need-returns invariant-loop decreases-loop
+returns : tie.Need-returns-then-same_object invariant-loop decreases-loop
 returns c =
-    let turn = c.before.before.before in (
-      sym (turn.before.loop.invariant.1
-          ∙ rw (next turn, ← c.before.before.object-at.ensures, ← c.before.same_object.ensures, c.if1.true)
+    let turn = c in (
+      sym (turn.loop-i.invariant.1
+          ∙ rw (next turn.before.before.before, ← c.object_at-object.ensures, ← c.same_object.ensures, c.if-same_object.true)
           (add-zero _)),
       omega arith,
     )
 
-loop-again : tie.Need-loop-preserved invariant-loop decreases-loop
+loop-again : tie.Need-loop-i-preserved invariant-loop decreases-loop
 loop-again c =
-    let turn = c.before.before.before in (
+    let turn = c in (
       omega arith,
-      turn.before.loop.invariant.1
-          ∙ rw (next turn, ← c.before.before.object-at.ensures, ← c.before.same_object.ensures, c.if1.false)
+      turn.loop-i.invariant.1
+          ∙ rw (next turn.before.before.before, ← c.object_at-object.ensures, ← c.same_object.ensures, c.if-same_object.false)
           (omega arith),
     )
 
-returns-2 : tie.Need-returns-2 invariant-loop decreases-loop
+returns-2 : tie.Need-returns invariant-loop decreases-loop
 returns-2 c =
-    let p = c.before in
-    let a = p.before.before.before.args in
-    let n = p.before.record-count.result in
-    let done = objects_at_done a.pages.now (a.at + 40) n p.loop.i c.loop-test.false in
-    (sym (p.loop.invariant.1 ∙ rw done (add-zero _)), omega arith)
+    let p = c in
+    let a = p.args in
+    let n = p.record_count-n.result in
+    let done = objects_at_done a.pages.now (a.at + 40) n p.loop-i.i c.loop-i-test.false in
+    (sym (p.loop-i.invariant.1 ∙ rw done (add-zero _)), omega arith)
 
 pub position_at_spec : {M : Type 1} → statement M
-position_at_spec =
-    tie.close (tie.spec invariant-loop decreases-loop (λ c κs. search rules) loop-holds (λ c. search rules) (λ c. search rules)
-    (λ c. search rules) (λ c κs. search rules) (λ c κs. search rules) returns (λ c. search rules) (λ c. search rules)
-    loop-again returns-2)
+position_at_spec = tie.close (tie.spec invariant-loop decreases-loop (λ c κs. search rules) loop-holds (λ c. search rules) (λ c. search rules) (λ c. search rules) (λ c κs. search rules) (λ c κs. search rules) returns (λ c. search rules) (λ c. search rules) loop-again returns-2)

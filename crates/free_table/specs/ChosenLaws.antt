@@ -1,7 +1,7 @@
 -- What is chosen, record by record: the lowest targets that pass, and no others; and what of the table changes.
-use Rattle.std.specs.Prelude.{ℕ, zero, suc, ◌+◌, ◌<◌, ◌≡◌, refl, List, [], ◌∷◌, map, ◌⊎◌, Bool, true, false, length, get_or}
+use Rattle.std.specs.Prelude.{ℕ, zero, suc, ◌+◌, ◌<◌, ◌≡◌, refl, List, [], ◌∷◌, map, Bool, true, false, length, get_or}
 use Rattle.std.proofs.Common.{sym, ◌∙◌, inl, inr, ⊎_elim, arith, get_or-take}
-use Rattle.std.proofs.Math.Path.{ap}
+use Rattle.std.proofs.Math.Path.{ap, subst}
 use Rattle.std.proofs.Math.ListN.{take, length-take, length-map}
 use Rattle.lists.specs.Bools.{bool_cases}
 use Rattle.lists.specs.Counting.{elem, elem_true}
@@ -100,14 +100,19 @@ module _ (ok : TargetRecord → Bool) where
   pub raised_chosen : (from s : ℕ) (rs : List TargetRecord) → rising from rs ≡ true
       → raised_first ok s rs ≡ map (raised_in (chosen ok s rs)) rs
   raised_chosen from s [] e = refl
-  raised_chosen from zero (r ∷ rs) e = sym (rw (chosen_none ok (r ∷ rs)) (raised_in_none (r ∷ rs)))
+  raised_chosen from zero (r ∷ rs) e =
+      sym (ap (λ (os : List Object). map (raised_in os) (r ∷ rs)) (chosen_none ok (r ∷ rs)) ∙ raised_in_none (r ∷ rs))
   raised_chosen from (suc s) (r ∷ rs) e =
       let p = first_rises from r rs e in
-      rw (chosen_cons ok s r rs)
-      (bool_cases (ok r)
-      (λ q. rw (q, same_object_refl (next_object r))
+      let Raised = λ (os : List Object). raised_first ok (suc s) (r ∷ rs) ≡ map (raised_in os) (r ∷ rs) in
+      bool_cases (ok r)
+      (λ q. let w : chosen ok (suc s) (r ∷ rs) ≡ next_object r ∷ chosen ok s rs = rw (chosen_cons ok s r rs, q) in
+      subst Raised (sym w)
+      (rw (q, same_object_refl (next_object r))
       (ap (λ (qs : List TargetRecord). raised r ∷ qs)
       (raised_chosen (r.target + 1) s rs p.2
-      ∙ sym (raised_in_above (r.target + 1) rs p.2 (next_object r) (chosen ok s rs) (omega arith)))))
-      (λ q. rw (q, not_chosen (r.target + 1) (suc s) rs p.2 (next_object r) (omega arith))
+      ∙ sym (raised_in_above (r.target + 1) rs p.2 (next_object r) (chosen ok s rs) (omega arith))))))
+      (λ q. let w : chosen ok (suc s) (r ∷ rs) ≡ chosen ok (suc s) rs = rw (chosen_cons ok s r rs, q) in
+      subst Raised (sym w)
+      (rw (q, not_chosen (r.target + 1) (suc s) rs p.2 (next_object r) (omega arith))
       (ap (λ (qs : List TargetRecord). r ∷ qs) (raised_chosen (r.target + 1) (suc s) rs p.2))))

@@ -1,0 +1,8 @@
+-- `free_table::free_below` meets its contract.
+use Rattle.std.specs.Prelude.{refl}
+use Rattle.free_table.specs.Table.{free_below}
+use Rattle.free_table.proofs.free_below.Goals as goal
+
+pub returns : goal.returns
+unfolding free_below
+returns c = refl

@@ -13,14 +13,16 @@ mod tables;
 mod text;
 mod writing;
 
-fn main() {
-    let one = reading::one_page();
-    writing::one_page(one);
-    mapped::one_page(one);
-    let b = reading::four_pages();
-    reading::broken_collectors();
-    mapped::examples();
-    growing::examples(b);
-    growing::refusals(b);
-    broken::layouts(b);
+use std::io;
+
+fn main(rt: HostRuntime) -> io::Result<()> {
+    let one = reading::one_page(&rt)?;
+    writing::one_page(&rt, one)?;
+    mapped::one_page(&rt, one)?;
+    let b = reading::four_pages(&rt)?;
+    reading::broken_collectors(&rt)?;
+    mapped::examples(&rt)?;
+    growing::examples(&rt, b)?;
+    growing::refusals(&rt, b)?;
+    broken::layouts(&rt, b)
 }

@@ -2,44 +2,45 @@
 use crate::{lending, pages, text};
 use collector::{Answer, Collector};
 use layout::Layout;
+use std::io;
 
 // Prints the answer of a page call.
-fn put_answer(answer: Answer) {
+fn put_answer(rt: &impl Print, answer: Answer) -> io::Result<()> {
     match answer {
-        Answer::More => text::put(b" more wanted"),
-        Answer::Complete => text::put(b" complete"),
-        Answer::Refused(number) => text::put_refused(number),
+        Answer::More => text::put(rt, b" more wanted"),
+        Answer::Complete => text::put(rt, b" complete"),
+        Answer::Refused(number) => text::put_refused(rt, number),
     }
 }
 
 // Takes a page, and prints the answer and what the collector has then. Gives the collector.
-fn take(c: Collector, page: &[u8]) -> Collector {
+fn take(rt: &impl Print, c: Collector, page: &[u8]) -> io::Result<Collector> {
     let taken = lending::take(c, page);
     let answer = taken.answer;
-    put_answer(answer);
+    put_answer(rt, answer)?;
     let after = taken.collector;
-    text::put(b", pages");
-    text::put_number(after.pages as u64);
-    text::put(b", components");
-    text::put_number(after.layout.count as u64);
-    text::end_line();
-    after
+    text::put(rt, b", pages")?;
+    text::put_number(rt, after.pages as u64)?;
+    text::put(rt, b", components")?;
+    text::put_number(rt, after.layout.count as u64)?;
+    text::end_line(rt)?;
+    Ok(after)
 }
 
 // Takes the layout out of the collector, and prints its generation and how many components it has, or the refusal.
-fn give(c: Collector) -> Layout {
+fn give(rt: &impl Print, c: Collector) -> io::Result<Layout> {
     let out = lending::give(c);
     let l = out.layout;
     if out.refusal == 0 {
-        text::put(b" generation");
-        text::put_number(l.generation as u64);
-        text::put(b", components");
-        text::put_number(l.count as u64);
+        text::put(rt, b" generation")?;
+        text::put_number(rt, l.generation as u64)?;
+        text::put(rt, b", components")?;
+        text::put_number(rt, l.count as u64)?;
     } else {
-        text::put_refused(out.refusal);
+        text::put_refused(rt, out.refusal)?;
     }
-    text::end_line();
-    l
+    text::end_line(rt)?;
+    Ok(l)
 }
 
 // The layout of one page.
@@ -59,83 +60,84 @@ pub(crate) fn outstanding() -> Layout {
 }
 
 // Document 01's page of 72 bytes. Gives its layout.
-pub(crate) fn one_page() -> Layout {
+pub(crate) fn one_page(rt: &impl Print) -> io::Result<Layout> {
     let page = pages::ONE;
-    text::put(b"one page:");
-    let c = take(moorsickle::new_collector(), &page);
-    text::put(b"one page, its layout:");
-    give(c)
+    text::put(rt, b"one page:")?;
+    let c = take(rt, moorsickle::new_collector(), &page)?;
+    text::put(rt, b"one page, its layout:")?;
+    give(rt, c)
 }
 
 // The first pages of layout B: page 0 is first sent with another mark, and page 1 before it.
-fn page_0() -> Collector {
+fn page_0(rt: &impl Print) -> io::Result<Collector> {
     let c = moorsickle::new_collector();
-    text::put(b"B, the layout of a new collector:");
-    give(c);
+    text::put(rt, b"B, the layout of a new collector:")?;
+    give(rt, c)?;
     let mut other = pages::B_0;
     other[1] = 0x49;
-    text::put(b"B, page 0 with the mark 50 49:");
-    let d = take(c, &other);
+    text::put(rt, b"B, page 0 with the mark 50 49:")?;
+    let d = take(rt, c, &other)?;
     let next = pages::B_1;
-    text::put(b"B, page 1 before page 0:");
-    let e = take(d, &next);
+    text::put(rt, b"B, page 1 before page 0:")?;
+    let e = take(rt, d, &next)?;
     let page = pages::B_0;
-    text::put(b"B, page 0 sent again:");
-    take(e, &page)
+    text::put(rt, b"B, page 0 sent again:")?;
+    take(rt, e, &page)
 }
 
 // Page 1 of layout B, after page 2 and another page 1 were refused.
-fn page_1(c: Collector) -> Collector {
+fn page_1(rt: &impl Print, c: Collector) -> io::Result<Collector> {
     let next = pages::B_2;
-    text::put(b"B, page 2 before page 1:");
-    let d = take(c, &next);
+    text::put(rt, b"B, page 2 before page 1:")?;
+    let d = take(rt, c, &next)?;
     let mut other = pages::B_1;
     other[8] = 10;
-    text::put(b"B, page 1 of generation 10:");
-    let e = take(d, &other);
+    text::put(rt, b"B, page 1 of generation 10:")?;
+    let e = take(rt, d, &other)?;
     let page = pages::B_1;
-    text::put(b"B, page 1 sent again:");
-    take(e, &page)
+    text::put(rt, b"B, page 1 sent again:")?;
+    take(rt, e, &page)
 }
 
 // The last pages of layout B, and one after them.
-fn last_pages(c: Collector) -> Collector {
-    text::put(b"B, the layout with two pages outstanding:");
-    give(c);
+fn last_pages(rt: &impl Print, c: Collector) -> io::Result<Collector> {
+    text::put(rt, b"B, the layout with two pages outstanding:")?;
+    give(rt, c)?;
     let page_2 = pages::B_2;
-    text::put(b"B, page 2:");
-    let d = take(c, &page_2);
+    text::put(rt, b"B, page 2:")?;
+    let d = take(rt, c, &page_2)?;
     let page_3 = pages::B_3;
-    text::put(b"B, page 3:");
-    let e = take(d, &page_3);
-    text::put(b"B, page 3 after the last:");
-    take(e, &page_3)
+    text::put(rt, b"B, page 3:")?;
+    let e = take(rt, d, &page_3)?;
+    text::put(rt, b"B, page 3 after the last:")?;
+    take(rt, e, &page_3)
 }
 
 // Layout B in four pages, with pages refused and sent again. Gives the layout.
-pub(crate) fn four_pages() -> Layout {
-    let c = last_pages(page_1(page_0()));
-    text::put(b"B, its layout:");
-    give(c)
+pub(crate) fn four_pages(rt: &impl Print) -> io::Result<Layout> {
+    let c = last_pages(rt, page_1(rt, page_0(rt)?)?)?;
+    text::put(rt, b"B, its layout:")?;
+    give(rt, c)
 }
 
 // A collector that breaks the rules of a collector: a page call refuses it, and so does the layout call.
-fn broken(c: Collector) {
+fn broken(rt: &impl Print, c: Collector) -> io::Result<()> {
     let page = pages::ONE;
-    text::put(b", take_page:");
-    take(c, &page);
-    text::put(b"the same collector, layout_of:");
-    give(c);
+    text::put(rt, b", take_page:")?;
+    take(rt, c, &page)?;
+    text::put(rt, b"the same collector, layout_of:")?;
+    give(rt, c)?;
+    Ok(())
 }
 
 // Collectors that break the rules of a collector.
-pub(crate) fn broken_collectors() {
+pub(crate) fn broken_collectors(rt: &impl Print) -> io::Result<()> {
     let mut c = moorsickle::new_collector();
     c.layout.complete = true;
-    text::put(b"a collector that is complete with no pages");
-    broken(c);
+    text::put(rt, b"a collector that is complete with no pages")?;
+    broken(rt, c)?;
     let mut d = moorsickle::new_collector();
     d.pages = 1;
-    text::put(b"a collector with a page and no components");
-    broken(d);
+    text::put(rt, b"a collector with a page and no components")?;
+    broken(rt, d)
 }

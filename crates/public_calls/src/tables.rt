@@ -3,6 +3,7 @@ ghost use Rattle.std.specs.Prelude.{◌≡◌};
 
 use crate::text;
 use free_table::{Table, TargetRecord};
+use std::io;
 
 // What is in the unused places of a table.
 const UNUSED: TargetRecord = TargetRecord {
@@ -74,8 +75,8 @@ pub(crate) fn same(a: Table, b: Table) -> bool {
 }
 
 // Prints the next numbers of the first two records.
-pub(crate) fn put_next(t: Table) {
-    text::put(b"; next numbers");
-    text::put_number(t.records[0].next);
-    text::put_number(t.records[1].next);
+pub(crate) fn put_next(rt: &impl Print, t: Table) -> io::Result<()> {
+    text::put(rt, b"; next numbers")?;
+    text::put_number(rt, t.records[0].next)?;
+    text::put_number(rt, t.records[1].next)
 }

@@ -14,96 +14,93 @@ use Rattle.gateway.proofs.growing.moorsickle_grow.Statement.{statement}
 use Rattle.gateway.proofs.growing.moorsickle_grow.Tie as tie
 
 -- The start of the call, at the point where the pages have been read;
-abbrev called : tie.After-read → tie.Start
+abbrev called : tie.After-read-read → tie.Start
 called c = c.before.before.before.before.before
 
 -- where the layout has been made of them,
-abbrev called-layout : tie.After-layout-at → tie.Start
+abbrev called-layout : tie.After-layout_at-l → tie.Start
 called-layout c = called c.before.before.before.before
 
 -- where growth has made its step,
-abbrev called-step : tie.After-step → tie.Start
-called-step c = called-layout c.before.before
+abbrev called-step : tie.After-step-g → tie.Start
+called-step c = called-layout c.before
 
 -- and where growth has not refused the call.
-abbrev called-accepted : tie.Else2 → tie.Start
+abbrev called-accepted : tie.Else-number-ne0 → tie.Start
 called-accepted c = called-step c.before.before
 
-returns : tie.Need-returns
+returns : tie.Need-returns-then-read-ne0
 unfolding grow_number table_after grown_after answer_after
 returns c =
-    let f = found_refused c.before.before.before.read.ensures (λ z. omega arith) in
+    let f = found_refused c.read-read.ensures (λ z. omega arith) in
     (f.number _, f.lent _ _ _, f.lent _ _ _, f.lent _ _ _)
 
-layout-at-requires : tie.Need-layout-at-requires
+layout-at-requires : tie.Need-layout_at-l-requires
 layout-at-requires c κs =
-    let v = c.before.before.before.read.ensures.valid_at (omega arith) in (v.1, v.2)
+    let v = c.read-read.ensures.valid_at (omega arith) in (v.1, v.2)
 
 -- The pages were read.
-read : (c : tie.Else1) → (host_reading (called c.before.before).args.pages.now).refusal ≡ 0
-read c = found_read c.before.before.read.ensures (omega (arith, c.if1.false))
+read : (c : tie.Else-read-ne0) → (host_reading (called c.before.before).args.pages.now).refusal ≡ 0
+read c = found_read c.read-read.ensures (omega (arith, c.if-read-ne0.false))
 
 -- The layout is the one that was read.
-layout : (c : tie.After-layout-at) → c.layout-at.result ≡ host_layout (called-layout c).args.pages.now
+layout : (c : tie.After-layout_at-l) → c.layout_at-l.result ≡ host_layout (called-layout c).args.pages.now
 layout c =
-    let r = c.before.before.before.before.read in
-    found_layout r.ensures (omega arith) c.layout-at.result c.layout-at.ensures
+    let r = c.read-read in
+    found_layout r.ensures (omega arith) c.layout_at-l.result c.layout_at-l.ensures
 
-step-requires : tie.Need-step-requires
+step-requires : tie.Need-step-g-requires
 step-requires c κs =
-    let l = c.before in
-    rw (layout l) (found_valid l.before.before.before.before.read.ensures (omega arith))
+    let l = c in
+    rw (layout l) (found_valid l.read-read.ensures (omega arith))
 
 -- What the step gave is what growth gives of the layout that was read.
-said : (c : tie.After-step) → let a = (called-step c).args in
-    StepSays a.table.now c.step.result (host_grown a.pages.now a.offset a.low-mark a.table.now)
-said c = rw (layout c.before.before) at c.step.ensures
+said : (c : tie.After-step-g) → let a = (called-step c).args in
+    StepSays a.table.now c.step-g.result (host_grown a.pages.now a.offset a.low_mark a.table.now)
+said c = rw (layout c.before) at c.step-g.ensures
 
 -- The number of its answer is that of growth.
-numbered : (c : tie.After-number-of) → let a = (called-step c.before).args in
-    later_number (host_grown a.pages.now a.offset a.low-mark a.table.now).answer 0 ≡ c.number_of_lem.result
-numbered c = ap (λ (x : Answer Effect). later_number x 0) (sym (said c.before).answer) ∙ sym c.number_of_lem.ensures
+numbered : (c : tie.After-number_of-number) → let a = (called-step c.before).args in
+    later_number (host_grown a.pages.now a.offset a.low_mark a.table.now).answer 0 ≡ c.number_of-number.result
+numbered c = ap (λ (x : Answer Effect). later_number x 0) (sym (said c.before).answer) ∙ sym c.number_of-number.ensures
 
-returns-2 : tie.Need-returns-2
+returns-2 : tie.Need-returns-then-number-ne0
 returns-2 c =
-    let n = c.before in
-    let a = (called-step n.before).args in
-    growth_refused a.pages.now a.offset a.low-mark a.table.now a.grown.now a.answer.now
-    (read n.before.before.before.before.before) n.number_of_lem.result (numbered n) (omega (arith, c.if2.true))
+    let n = c in
+    let a = (called-step n.before.before).args in
+    growth_refused a.pages.now a.offset a.low_mark a.table.now a.grown.now a.answer.now
+    (read n.before.before.before.before.before) n.number_of-number.result (numbered n.before) (omega (arith, c.if-number-ne0.true))
 
 -- The call is accepted.
-accepted : (c : tie.Else2) → let a = (called-accepted c).args in
-    later_number (host_grown a.pages.now a.offset a.low-mark a.table.now).answer 0 ≡ 0
-accepted c = numbered c.before ∙ omega (arith, c.if2.false)
+accepted : (c : tie.Else-number-ne0) → let a = (called-accepted c).args in
+    later_number (host_grown a.pages.now a.offset a.low_mark a.table.now).answer 0 ≡ 0
+accepted c = numbered c.before ∙ omega (arith, c.if-number-ne0.false)
 
 give-requires : tie.Need-give-requires
 give-requires c κs =
-    let two = c.before.before.before.before in
-    let g = two.before.before in
-    let e = g.before.before.before.before in
-    let a = (called-step g).args in
+    let two = c in
+    let g = two in
+    let e = g in
+    let a = (called-step g.before.before.before.before.before.before.before.before).args in
     let s = a.pages.now in
-    let yes = growth_accepted s a.offset a.low-mark a.table.now a.grown.now a.answer.now (read e) (accepted two) in
-    let t = (said g).table yes.0 yes.1 in
-    let v = found_valid e.before.before.read.ensures (omega (arith, e.if1.false)) in
-    (rw (said g).layout (grow_valid (host_layout s) _ v), t.1, t.2)
+    let yes = growth_accepted s a.offset a.low_mark a.table.now a.grown.now a.answer.now (read e.before.before.before.before.before.before.before.before.before.before.before) (accepted two.before.before.before.before.before.before) in
+    let t = (said g.before.before.before.before.before.before.before.before).table yes.0 yes.1 in
+    let v = found_valid e.read-read.ensures (omega (arith, e.if-read-ne0.false)) in
+    (rw (said g.before.before.before.before.before.before.before.before).layout (grow_valid (host_layout s) _ v), t.1, t.2)
 
-returns-3 : tie.Need-returns-3
+returns-3 : tie.Need-returns
 returns-3 c =
-    let given = c.before.before.before.before in
-    let home = given.before.before.before.before in
-    let two = home.before in
-    let g = two.before.before in
-    let e = g.before.before.before.before in
-    let a = (called-step g).args in
+    let given = c in
+    let home = given in
+    let two = home in
+    let g = two in
+    let e = g in
+    let a = (called-step g.before.before.before.before.before.before.before.before.before.before.before.before.before).args in
     let s = a.pages.now in
-    let yes = growth_accepted s a.offset a.low-mark a.table.now a.grown.now a.answer.now (read e) (accepted two) in
-    results_given s a.offset a.low-mark a.table.now a.grown.now a.answer.now (read e)
-    g.step.result.layout g.step.result.table home.Home-of.result (accepted two) (said g).layout
-    ((said g).table yes.0 yes.1).0 (home.Home-of.ensures ∙ ap home_number (said g).answer) _ _ _ _ given.give.ensures
+    let yes = growth_accepted s a.offset a.low_mark a.table.now a.grown.now a.answer.now (read e.before.before.before.before.before.before.before.before.before.before.before.before.before.before.before.before) (accepted two.before.before.before.before.before.before.before.before.before.before.before) in
+    results_given s a.offset a.low_mark a.table.now a.grown.now a.answer.now (read e.before.before.before.before.before.before.before.before.before.before.before.before.before.before.before.before)
+    g.step-g.result.layout g.step-g.result.table home.home_of-home.result (accepted two.before.before.before.before.before.before.before.before.before.before.before) (said g.before.before.before.before.before.before.before.before.before.before.before.before.before).layout
+    ((said g.before.before.before.before.before.before.before.before.before.before.before.before.before).table yes.0 yes.1).0 (home.home_of-home.ensures ∙ ap home_number (said g.before.before.before.before.before.before.before.before.before.before.before.before.before).answer) _ _ _ _ given.give.ensures
 
 pub moorsickle_grow_spec : {M : Type 1} → statement M
-moorsickle_grow_spec =
-    tie.close (tie.spec (λ c κs. search rules) (λ c. search rules) returns layout-at-requires step-requires
-    (λ c κs. search rules) (λ c. search rules) (λ c. search rules) returns-2 (λ c κs. search rules) give-requires
-    (λ c. search rules) (λ c. search rules) returns-3)
+moorsickle_grow_spec = tie.close (tie.spec (λ c κs. search rules) (λ c. search rules) returns layout-at-requires step-requires (λ c κs. search rules) (λ c. search rules) (λ c. search rules) returns-2 (λ c κs. search rules) give-requires (λ c. search rules) (λ c. search rules) returns-3)

@@ -1,9 +1,0 @@
--- `gateway::growing::number_of` meets its contract.
-use borrow.Author.Rules.{rules}
-use Rattle.growth.specs.Answers.{grow_says}
-use Rattle.gateway.proofs.growing.number_of.Statement.{statement}
-use Rattle.gateway.proofs.growing.number_of.Tie as tie
-
-pub number_of_spec : {M : Type 1} → statement M
-unfolding grow_says
-number_of_spec = tie.close (tie.spec (λ c. search rules) (λ c. search rules) (λ c. search rules) (λ c. search rules))

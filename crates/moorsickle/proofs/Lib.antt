@@ -1,4 +1,0 @@
-pub mod LentCollector
-pub mod Steps
-pub mod TableLent
-pub mod TableRows

@@ -2,6 +2,7 @@
 use Rattle.std.specs.Prelude.{ℕ, suc, ◌≤◌, ◌≡◌, refl, List, [], ◌∷◌, ◌++◌, length, take, drop}
 use Rattle.std.proofs.Common.{sym, ap, ◌∙◌, arith}
 use Rattle.std.proofs.lemmas.List.Edits.{sets}
+use Rattle.std.proofs.Math.ListN.{set}
 use Rattle.std.proofs.Math.Seq.{set_out, drop-nil}
 use Rattle.lists.specs.Slices.{take_sets}
 use Rattle.listing.specs.Listing.{listing_of}
@@ -22,7 +23,7 @@ module _ {A : Type 0} where
   -- Stores after the first place leave it.
   sets_after : (x : A) (l : List A) (i : ℕ) (v : List A) → sets (x ∷ l) (suc i) v ≡ x ∷ sets l i v
   sets_after x l i [] = refl
-  sets_after x l i (a ∷ v) = sets_after x _ (suc i) v
+  sets_after x l i (a ∷ v) = sets_after x (set l i a) (suc i) v
 
   -- Stores from the first place on: as much as there is room for, and then what was there.
   pub sets_cut : (l v : List A) → sets l 0 v ≡ take (length l) v ++ drop (length v) l

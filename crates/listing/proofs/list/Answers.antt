@@ -13,15 +13,15 @@ returns c =
     let put = c in
     let wrote = put in
     let s = wrote in
-    let q = wrote.put_listing-n in (
-      (
-        q.ensures.0.0,
+    let q = wrote.put_listing-n in record {
+      value = (
+        q.ensures.value.0,
         copied (replicate 2448 0) _ s.args.out.now _ (listing_of s.args.input.now) q.result
-            (omega (arith, length-replicate {A = ℕ} 2448 0, q.ensures.1)) q.ensures.0.0 q.ensures.0.1
+            (omega (arith, length-replicate {A = ℕ} 2448 0, q.ensures.upper_bound)) q.ensures.value.0 q.ensures.value.1
             put.put_first.ensures,
-      ),
-      q.ensures.1,
-    )
+      );
+      upper_bound = q.ensures.upper_bound;
+    }
 
 pub returns-then-out-ge2448 : goal.returns-then-out-ge2448
 returns-then-out-ge2448 c = c.put_listing.ensures

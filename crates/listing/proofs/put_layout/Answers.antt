@@ -11,9 +11,9 @@ returns c =
     let head = rest in
     let a = head.args in
     let l = a.l in
-    let first = head_line l.generation l.count in (
-      from_first a.out.now _ (layout_text l) _
+    let first = head_line l.generation l.count in record {
+      value = from_first a.out.now _ (layout_text l) _
           (both a.out.now _ _ first (component_lines (view l)) 0 _ _
-          (at_first a.out.now _ first _ head.put_head-place.ensures.0) rest.put_components.ensures.0),
-      omega arith,
-    )
+          (at_first a.out.now _ first _ head.put_head-place.ensures.value) rest.put_components.ensures.value);
+      upper_bound = omega arith;
+    }

@@ -22,7 +22,7 @@ returns-then-reading-ne0 c =
     let read = test in
     let r = read.read_listed-reading.result in
     rw (← read.read_listed-reading.ensures, ne_eqb r.refusal 0 test.if-reading-ne0.true)
-    (put.put_refused.ensures.0, omega arith)
+    record { value = put.put_refused.ensures.value; upper_bound = omega arith }
 
 -- A reading that is not refused has at most 16 components.
 few : (r : Reading) (s : List ℕ) → r ≡ read_run listed_cut s → r.refusal ≡ 0 → r.layout.count ≤ 16

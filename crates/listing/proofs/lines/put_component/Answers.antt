@@ -10,10 +10,10 @@ returns c =
     let third = c in
     let second = third in
     let first = second in
-    let a = first.args in (
-      more a.out.now _ _ (decimal a.c.id) (decimal a.c.begin) (state_words a.c) a.at _ _
-          first.put_number-a.ensures.0
+    let a = first.args in record {
+      value = more a.out.now _ _ (decimal a.c.id) (decimal a.c.begin) (state_words a.c) a.at _ _
+          first.put_number-a.ensures.value
           (both _ _ _ (decimal a.c.begin ++ (32 ∷ [])) (line (state_words a.c)) _ _ _
-          second.put_number-b.ensures.0 third.put_state.ensures.0),
-      omega arith,
-    )
+          second.put_number-b.ensures.value third.put_state.ensures.value);
+      upper_bound = omega arith;
+    }

@@ -28,7 +28,7 @@ loop-i-preserved c =
     let next = slice_next l.components l.count i unread turn.loop-i-test.true (omega arith) in
     let rest = slice (i + 1) l.count l.components in
     let w = left p.loop-i.out put.put_component-place.new.out (component_line (get_or l.components i unread))
-    (component_lines rest) p.loop-i.place put.put_component-place.result put.put_component-place.ensures.0 in (
+    (component_lines rest) p.loop-i.place put.put_component-place.result put.put_component-place.ensures.value in (
       omega arith,
       put.put_component-place.auto.out ∙ p.loop-i.invariant.1,
       omega arith,
@@ -43,4 +43,4 @@ returns c =
     let done = slice_done l.components l.count p.loop-i.i c.loop-i-test.false in
     let e : p.args.at + length (component_lines (view l)) ≡ p.loop-i.place + 0 =
     rw done at p.loop-i.invariant.3 in
-    ((omega arith, sym (rw done at p.loop-i.invariant.4)), omega arith)
+    record { value = (omega arith, sym (rw done at p.loop-i.invariant.4)); upper_bound = omega arith }

@@ -10,9 +10,9 @@ returns c =
     let third = fourth in
     let second = third in
     let first = second in
-    let a = first.args in (
-      four_words a.out.now _ _ _ _ a.name.now (decimal a.m) a.other.now (decimal a.n)
-          _ _ _ _ first.put_text-a.ensures.0 second.put_number-b.ensures.0 third.put_text-c.ensures.0
-          fourth.put_number.ensures.0,
-      omega arith,
-    )
+    let a = first.args in record {
+      fact = four_words a.out.now _ _ _ _ a.name.now (decimal a.m) a.other.now (decimal a.n)
+          _ _ _ _ first.put_text-a.ensures.value second.put_number-b.ensures.value third.put_text-c.ensures.value
+          fourth.put_number.ensures.value;
+      upper_bound = omega arith;
+    }

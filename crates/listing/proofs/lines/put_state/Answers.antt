@@ -11,9 +11,9 @@ returns c =
     let second = third in
     let first = second in
     let a = first.args in
-    let kind = kind_word a.c.init a.c.extension in (
-      more a.out.now _ _ (end_word a.c.end) kind (striping_words a.c) a.at _ _ first.put_end-a.ensures.0
-          (both _ _ _ (kind ++ (32 ∷ [])) (line (striping_words a.c)) _ _ _ second.put_kind-b.ensures.0
-          third.put_striping.ensures.0),
-      omega arith,
-    )
+    let kind = kind_word a.c.init a.c.extension in record {
+      value = more a.out.now _ _ (end_word a.c.end) kind (striping_words a.c) a.at _ _ first.put_end-a.ensures.value
+          (both _ _ _ (kind ++ (32 ∷ [])) (line (striping_words a.c)) _ _ _ second.put_kind-b.ensures.value
+          third.put_striping.ensures.value);
+      upper_bound = omega arith;
+    }

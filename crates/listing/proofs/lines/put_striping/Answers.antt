@@ -18,11 +18,11 @@ returns c =
     let s : size.result ≡ size_in a.c.extension a.c.stripe_size a.c.extension_size = size.ensures in
     let fits = third.struct_told-1.given in
     let e = to_z-of_z {w = w32} {z = a.c.first_target} (record { sfits = fits.1.1.1.1.1.0.1 }) in
-    let target = signed a.c.first_target in (
-      rw (← s)
+    let target = signed a.c.first_target in record {
+      value = rw (← s)
           (more a.out.now _ _ (decimal a.c.stripe_count) (decimal size.result) (target ∷ []) a.at _ _
-          first.put_number-a.ensures.0
-          (more _ _ _ (decimal size.result) target [] _ _ _ second.put_number-b.ensures.0
-          (rw (← e) third.put_signed.ensures.0))),
-      omega arith,
-    )
+          first.put_number-a.ensures.value
+          (more _ _ _ (decimal size.result) target [] _ _ _ second.put_number-b.ensures.value
+          (rw (← e) third.put_signed.ensures.value)));
+      upper_bound = omega arith;
+    }

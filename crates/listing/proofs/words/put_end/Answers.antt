@@ -10,7 +10,7 @@ returns-then-end-eq18446744073709551615 c =
     let call = c in
     let test = call in
     rw (eq-eqb test.args.end 18446744073709551615 test.if-end-eq18446744073709551615.true)
-    (call.put_text.ensures.0, omega arith)
+    record { value = call.put_text.ensures.value; upper_bound = omega arith }
 
 pub returns : goal.returns
 unfolding end_word

@@ -27,8 +27,8 @@ pub returns : goal.returns
 returns c =
     let call = c in
     let first = call in
-    let a = first.args in (
-      byte_after a.out.now _ (decimal a.n) a.at call.put_decimal-place.result a.last
-          call.put_decimal-place.ensures,
-      omega (arith, length_decimal a.n),
-    )
+    let a = first.args in record {
+      value = byte_after a.out.now _ (decimal a.n) a.at call.put_decimal-place.result a.last
+          call.put_decimal-place.ensures;
+      upper_bound = omega (arith, length_decimal a.n);
+    }

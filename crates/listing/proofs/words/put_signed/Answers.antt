@@ -21,7 +21,7 @@ returns-then-bits-lt2147483648 c =
     let e : bits.bits_of-bits.result ≡ bits_of first.args.z = bits.bits_of-bits.ensures ∙ ap bits_of (to_z-of_z f) in
     let s : signed first.args.z ≡ decimal bits.bits_of-bits.result =
     signed_plus first.args.z f (omega arith) ∙ ap decimal (sym e) in
-    rw s (call.put_number.ensures.0, omega arith)
+    rw s record { value = call.put_number.ensures.value; upper_bound = omega arith }
 
 pub put_number-requires-2 : goal.put_number-requires-2
 put_number-requires-2 c = rw length-set (omega arith)
@@ -44,8 +44,8 @@ returns c =
     let e : n ≡ bits_of a.z = bits.bits_of-bits.ensures ∙ ap bits_of (to_z-of_z f) in
     let s : signed a.z ≡ 45 ∷ decimal (4294967296 - n) =
     signed_minus a.z f (omega arith) ∙ ap (λ (k : ℕ). 45 ∷ decimal (4294967296 - k)) (sym e) in
-    rw s (
-      both out (set out a.at 45) _ (45 ∷ []) (decimal (4294967296 - n) ++ (a.last ∷ [])) a.at (a.at + 1) _
-          (refl, refl) call.put_number-2.ensures.0,
-      omega arith,
-    )
+    rw s record {
+      value = both out (set out a.at 45) _ (45 ∷ []) (decimal (4294967296 - n) ++ (a.last ∷ [])) a.at (a.at + 1) _
+          (refl, refl) call.put_number-2.ensures.value;
+      upper_bound = omega arith;
+    }

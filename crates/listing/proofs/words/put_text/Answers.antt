@@ -34,4 +34,4 @@ returns c =
     let done = slice_done text (length text) p.loop-i.i c.loop-i-test.false in
     let wrote = byte_after a.out.now p.loop-i.out text a.at (a.at + length text) a.last
     (refl, sym (rw done at p.loop-i.invariant.2)) in
-    (wrote, refl)
+    record { value = wrote; value_2 = refl }

@@ -221,8 +221,7 @@ fn home_of(out: GrowOut) -> u64
 //  18 a chosen target and number are in the layout already;
 //  19 a change is due and the generation is 2^32 - 1;
 //  20 `grown` is shorter than the pages.
-#[unsafe(no_mangle)]
-pub extern "C" fn moorsickle_grow(
+pub fn moorsickle_grow(
     pages: &[u8],
     offset: u64,
     low_mark: u64,

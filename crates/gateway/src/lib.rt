@@ -1,5 +1,5 @@
-// The entry points for C, over the bytes of a layout's pages and plain numbers. The pages are back to back, each
-// ending after the records that its head counts. In C a slice is a pointer and a length, the pointer first.
+// The calls behind the entry points for C, over the bytes of a layout's pages and plain numbers. The pages are back to
+// back, each ending after the records that its head counts. Crate `gateway_c` hands them to C.
 //
 // Every call returns 0, or the number of a refusal; a call that is refused stores nothing. A refusal of the reading of
 // the pages comes first, by one of these numbers:
@@ -28,8 +28,7 @@ mod lent;
 // object. Refused, once the pages are read, by one of these numbers:
 //  10 the byte lies at or past the last component's end;
 //  11 the byte lies in a component that is not init.
-#[unsafe(no_mangle)]
-pub extern "C" fn moorsickle_lookup(pages: &[u8], offset: u64, home: &mut [u64; 3]) -> u32
+pub fn moorsickle_lookup(pages: &[u8], offset: u64, home: &mut [u64; 3]) -> u32
     ensures { (result ≡ lookup_number pages.now offset)
         × (home.new ≡ home_after pages.now offset home.old) }
 {
@@ -46,8 +45,7 @@ pub extern "C" fn moorsickle_lookup(pages: &[u8], offset: u64, home: &mut [u64; 
 // Refused, once the pages are read, by one of these numbers:
 //  13 the object is not in the layout;
 //  14 the object byte is hidden: its file byte lies outside the object's component, or is not below 2^64.
-#[unsafe(no_mangle)]
-pub extern "C" fn moorsickle_back(
+pub fn moorsickle_back(
     pages: &[u8],
     target: u32,
     number: u64,
@@ -76,8 +74,7 @@ pub extern "C" fn moorsickle_back(
 //  10 a byte asked for lies at or past the last component's end;
 //  11 a byte asked for lies in a component that is not init;
 //  12 there are more pieces than 256, or than a fifth of the numbers of `room`, rounded down.
-#[unsafe(no_mangle)]
-pub extern "C" fn moorsickle_cut(
+pub fn moorsickle_cut(
     pages: &[u8],
     offset: u64,
     length: u64,
@@ -104,8 +101,7 @@ pub extern "C" fn moorsickle_cut(
 // the number of bytes of the page. Refused, once the pages are read, by one of these numbers:
 //  4 the layout has no page of this number;
 //  20 the buffer is shorter than the page.
-#[unsafe(no_mangle)]
-pub extern "C" fn moorsickle_page(
+pub fn moorsickle_page(
     pages: &[u8],
     number: u64,
     buffer: &mut [u8],

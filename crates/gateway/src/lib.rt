@@ -45,13 +45,7 @@ pub fn moorsickle_lookup(pages: &[u8], offset: u64, home: &mut [u64; 3]) -> u32
 // Refused, once the pages are read, by one of these numbers:
 //  13 the object is not in the layout;
 //  14 the object byte is hidden: its file byte lies outside the object's component, or is not below 2^64.
-pub fn moorsickle_back(
-    pages: &[u8],
-    target: u32,
-    number: u64,
-    byte: u64,
-    offset: &mut u64,
-) -> u32
+pub fn moorsickle_back(pages: &[u8], target: u32, number: u64, byte: u64, offset: &mut u64) -> u32
     ensures { let bytes = pages.now in
         let home = in_object (object_of target number) byte in
         (result ≡ back_number bytes home)
@@ -101,12 +95,7 @@ pub fn moorsickle_cut(
 // the number of bytes of the page. Refused, once the pages are read, by one of these numbers:
 //  4 the layout has no page of this number;
 //  20 the buffer is shorter than the page.
-pub fn moorsickle_page(
-    pages: &[u8],
-    number: u64,
-    buffer: &mut [u8],
-    written: &mut u64,
-) -> u32
+pub fn moorsickle_page(pages: &[u8], number: u64, buffer: &mut [u8], written: &mut u64) -> u32
     ensures { let bytes = pages.now in
         let lent = buffer.old in
         (result ≡ page_number bytes number lent)

@@ -1,5 +1,5 @@
 // The calls that take a lent record, by value: each function here lends what it was given to the call, and gives it
-// back beside the answer. These three are proved by hand, and no other function of the program is.
+// back beside the answer.
 ghost use Rattle.std.specs.Prelude.{◌≡◌, ◌≤◌};
 ghost use Rattle.collector.specs.Taking.{page_in};
 ghost use Rattle.collector.specs.Giving.{layout_out};

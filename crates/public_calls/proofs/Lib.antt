@@ -1,2 +1,0 @@
-pub mod LentRecords
-pub mod Local

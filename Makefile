@@ -6,8 +6,8 @@ CC = gcc
 run:
 	@mkdir -p target
 	@echo 'Proving and building the listing program and the library for C. From nothing this takes some minutes; target/run.log shows how far it is.'
-	@rt check list > target/run.log 2>&1 || { cat target/run.log; exit 1; }
-	@rt staticlib gateway >> target/run.log 2>&1 || { cat target/run.log; exit 1; }
+	@tools/build list > target/run.log 2>&1 || { cat target/run.log; exit 1; }
+	@tools/build library >> target/run.log 2>&1 || { cat target/run.log; exit 1; }
 	@$(CC) -std=c11 -Wall -Wextra -Werror -pedantic -O2 -Iinclude examples/gateway.c target/staticlib/libgateway.a -o target/gateway
 	@echo
 	@echo 'The layout in samples/listing/layout_b.pages: its generation and its components, each with id, begin, end, kind, stripe count, size and first target.'
@@ -21,9 +21,9 @@ test:
 
 # Both programs, the library and the independent one in host/, in one run.
 bench:
-	@rt staticlib gateway > /dev/null
+	@tools/build library > /dev/null
 	@cd host && cargo run --release --offline --quiet --bin bench
 
 fmt:
-	rt fmt
+	for crate in crates/*/; do (cd $$crate && rt fmt) || exit 1; done
 	cd host && cargo fmt

@@ -1,5 +1,5 @@
 //! Finds the static library of the five entry points: the path in the variable MOORSICKLE_LIB, else the place where
-//! `rt staticlib gateway` puts it, next to this package.
+//! `tools/build library` puts it, next to this package.
 
 use std::env;
 use std::path::PathBuf;
@@ -31,6 +31,6 @@ fn library() -> PathBuf {
 }
 
 fn fail(what: &str) -> ! {
-    println!("cargo:warning={what}; build it by `rt staticlib gateway` or name it in MOORSICKLE_LIB");
+    println!("cargo:warning={what}; build it by `tools/build library` or name it in MOORSICKLE_LIB");
     exit(1);
 }

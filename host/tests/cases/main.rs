@@ -2,7 +2,7 @@
 //! points of the static library and to the independent program; pages that are read, also to the listing program.
 //!
 //! `cargo test --release --test cases -- WORDS` runs the cases whose file, line and name have these words in them.
-//! MOORSICKLE_LIST: the path of the listing program, if it is not where `rt check list` puts it.
+//! MOORSICKLE_LIST: the path of the listing program, if it is not where `tools/build list` puts it.
 
 mod answers;
 mod layouts;
@@ -93,7 +93,7 @@ fn listing_program() -> Result<OsString, String> {
     match Path::new(&program).is_file() {
         true => Ok(program),
         false => Err(format!(
-            "no listing program at {}: build it by `rt check list`, or name it in MOORSICKLE_LIST",
+            "no listing program at {}: build it by `tools/build list`, or name it in MOORSICKLE_LIST",
             program.display()
         )),
     }

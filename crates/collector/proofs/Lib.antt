@@ -1,1 +1,5 @@
 pub mod Next
+pub mod CallLaws
+pub mod RunLaws
+pub mod CutLaws
+pub mod ValidRuns

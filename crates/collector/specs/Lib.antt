@@ -4,7 +4,3 @@ pub mod Giving
 pub mod Runs
 pub mod TakingLaws
 pub mod Sound
-pub mod RunLaws
-pub mod ValidRuns
-pub mod CutLaws
-pub mod CallLaws

@@ -9,7 +9,7 @@ use lib.ListN.{length}
 use Rattle.lists.specs.Bools.{bool_cases}
 use Rattle.free_table.specs.declared.TargetRecord.{TargetRecord}
 use Rattle.free_table.specs.Choosing.{next_object, chosen, raised_first}
-use Rattle.free_table.specs.ChoosingLaws.{chosen_none, chosen_nil, chosen_first, chosen_past}
+use Rattle.free_table.proofs.ChoosingLaws.{chosen_none, chosen_nil, chosen_first, chosen_past}
 
 module _ (ok : TargetRecord → Bool) (r : TargetRecord) where
   -- If it passes, and some are to be chosen, it is chosen;

@@ -16,7 +16,7 @@ use Rattle.free_table.specs.declared.Table.{Table}
 use Rattle.free_table.specs.declared.Choice.{Choice}
 use Rattle.free_table.specs.Table.{with_records}
 use Rattle.free_table.specs.Choosing.{chosen, raised_first, choice_of, with_more}
-use Rattle.free_table.specs.ChoosingLaws.{more_chosen, chosen_append, raised_append, length_raised}
+use Rattle.free_table.proofs.ChoosingLaws.{more_chosen, chosen_append, raised_append, length_raised}
 use Rattle.free_table.proofs.OneRecord.{one_raised}
 
 -- If the targets of at most 16 objects are at most n, so is that in the first place that they are packed into, blank or not.

@@ -3,8 +3,4 @@ pub mod Choosing
 pub mod ChosenFacts
 pub mod Scanning
 pub mod Raising
-pub mod TableLaws
-pub mod ChoosingLaws
-pub mod ChosenLaws
 pub mod ScanLaws
-pub mod ScanTheorem

@@ -11,8 +11,8 @@ use Rattle.lists.specs.Slices.{take_sets}
 use Rattle.free_table.specs.declared.TargetRecord.{TargetRecord}
 use Rattle.free_table.specs.Table.{no_record, table_of, rising, table_ok}
 use Rattle.free_table.specs.Choosing.{raised, raised_first}
-use Rattle.free_table.specs.TableLaws.{first_rises}
-use Rattle.free_table.specs.ChoosingLaws.{table_facts}
+use Rattle.free_table.proofs.TableLaws.{first_rises}
+use Rattle.free_table.proofs.ChoosingLaws.{table_facts}
 use Rattle.gateway.specs.HostGrowth.{cut_record, word_table, with_next_words}
 use Rattle.gateway.specs.LentWords.{held_record, record_at, first_held, loaded_words}
 

@@ -10,10 +10,10 @@ use Rattle.mapping.specs.Answers.{gives, refuses}
 use Rattle.mapping.specs.AnswerLaws.{gives_or_refuses}
 use Rattle.mapping.specs.Homes.{Home, home_of, is_given, has_home}
 use Rattle.mapping.specs.Lookup.{lookup_in}
-use Rattle.mapping.specs.HomeLaws.{lookup_home}
+use Rattle.mapping.proofs.LookupLaws.{lookup_home}
 use Rattle.free_table.specs.declared.Table.{Table}
 use Rattle.free_table.specs.Table.{table_of, with_records}
-use Rattle.free_table.specs.ChoosingLaws.{take_count}
+use Rattle.free_table.proofs.ChoosingLaws.{take_count}
 
 -- The first elements of a list stored where they are leave the list as it was.
 stored_same : {A : Type 0} (l : List A) (n : ℕ) → sets l 0 (take n l) ≡ l

@@ -13,7 +13,7 @@ use Rattle.layout.specs.Records.{records_of}
 use Rattle.layout.specs.RecordLaws.{records_pack}
 use Rattle.free_table.specs.Table.{any_low, usable}
 use Rattle.free_table.specs.Choosing.{chosen}
-use Rattle.free_table.specs.ChoosingLaws.{chosen_few}
+use Rattle.free_table.proofs.ChoosingLaws.{chosen_few}
 use Rattle.growth_rules.specs.Parts.{with_extent, made_init, repeat_base, repeat_of, reach, leaving, following}
 use Rattle.growth_rules.specs.Parts.{granting as granted}
 use Rattle.growth_rules.specs.Steps.{Call, Step, lacks, changes, choosing, held_step, spill_step, low_step, extension_step}

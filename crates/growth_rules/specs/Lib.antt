@@ -9,12 +9,4 @@ pub mod PartLaws
 pub mod Replacing
 pub mod ReplacingLaws
 pub mod RenewingLaws
-pub mod PartReplacing
-pub mod StepReplacing
 pub mod CallCases
-pub mod ValidityLaws
-pub mod ReadingLaws
-pub mod MomentLaws
-pub mod Demand3
-pub mod CallLaws
-pub mod AcceptedLaws

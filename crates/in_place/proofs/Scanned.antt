@@ -7,7 +7,8 @@ use native.Mathlib.Omega.{arith}
 use lib.Dec.{eqb}
 use lib.ListN.{length, take}
 use lib.Seq.{sets}
-use Rattle.lists.specs.Tests.{every, first_failed, length_along, failed_every}
+use Rattle.lists.specs.Tests.{every, first_failed, length_along}
+use Rattle.lists.proofs.TestLaws.{failed_every}
 use Rattle.lists.specs.Counting.{fresh, unseen, seen_with}
 use Rattle.layout.specs.declared.Object.{Object}
 use Rattle.layout.specs.Rows.{targets_of, numbers_of, named, rows_back}

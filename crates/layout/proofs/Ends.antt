@@ -11,7 +11,7 @@ use borrow.Author.Tests.{ltb-true, ltb-false}
 use Rattle.lists.specs.Bools.{bool_cases}
 use Rattle.lists.specs.Tests.{first_failed, ahead}
 use Rattle.lists.specs.Slices.{slice_next, slice_done, take_next}
-use Rattle.lists.specs.Loops.{ahead_done}
+use Rattle.lists.proofs.Loops.{ahead_done}
 use Rattle.layout.specs.declared.Neighbour.{Neighbour}
 use Rattle.layout.specs.Neighbours.{is_empty, empty_ok, last_ok, last_tests}
 

@@ -8,7 +8,7 @@ use Rattle.std.proofs.Math.Dec.{ltb, eqb}
 use borrow.Author.Tests.{ltb-true, leb-true, eqb-true, not-true, lt-ltb, le-leb, eq-eqb}
 use Rattle.lists.specs.Bools.{bool_cases, clash, both_true, true_both, implies_true, true_implies, beq_true, true_beq}
 use Rattle.lists.specs.Tests.{every, along, each, each_at, at_each, conjunction_at}
-use Rattle.lists.specs.Counting.{fresh_count, count_fresh}
+use Rattle.lists.proofs.CountingLaws.{fresh_count, count_fresh}
 use Rattle.layout.specs.declared.Object.{Object}
 use Rattle.layout.specs.declared.Component.{Component}
 use Rattle.layout.specs.declared.Layout.{Layout}

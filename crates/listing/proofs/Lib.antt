@@ -1,2 +1,4 @@
 pub mod Signs
 pub mod Writing
+pub mod DecimalLaws
+pub mod DecimalValue

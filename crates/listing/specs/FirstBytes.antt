@@ -11,7 +11,7 @@ use Rattle.collector.specs.declared.Reading.{Reading}
 use Rattle.collector.specs.Collector.{new_collector}
 use Rattle.collector.specs.Taking.{number_of, page_in}
 use Rattle.collector.specs.Runs.{next, refused_at, closed, following, read_on, read_run, listed_cut}
-use Rattle.collector.specs.CutLaws.{listed_long, listed_next}
+use Rattle.collector.proofs.CutLaws.{listed_long, listed_next}
 use Rattle.listing.specs.Listing.{reading_text, listing_of}
 
 -- Whether any byte follows shows in the first.

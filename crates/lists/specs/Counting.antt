@@ -1,10 +1,10 @@
 -- Lists whose elements all differ, by a test of sameness: as a list of tests, and as counts.
 use Rattle.std.specs.Prelude.{ℕ, zero, suc, ◌+◌, ◌≤◌, ◌<◌, ◌≡◌, refl, List, [], ◌∷◌, ◌++◌, Bool, true, false, not, ◌||◌, length, get_or}
 use Rattle.std.proofs.Common.{sym, ap, ◌∙◌, append-nil, arith}
-use Rattle.std.proofs.lemmas.Bool.{false≢true, not-true}
+use Rattle.std.proofs.lemmas.Bool.{false≢true}
 use Rattle.std.proofs.Math.Seq.{append_snoc}
-use Rattle.lists.specs.Bools.{bool_cases, both_true, both_false}
-use Rattle.lists.specs.Tests.{every, along, after, any_of}
+use Rattle.lists.specs.Bools.{bool_cases, both_false}
+use Rattle.lists.specs.Tests.{along, after, any_of}
 
 -- 1 for a test that passes, 0 for one that fails.
 abbrev pub bit : Bool → ℕ
@@ -58,37 +58,8 @@ module _ {A : Type 0} (same : A → A → Bool) where
   elem_true x [] e = absurd (false≢true e)
   elem_true x (a ∷ l) e = bool_cases (same x a) (λ q. rw q (omega arith)) (λ q. omega (arith, elem_true x l (rw q at e)))
 
-  -- If the tests pass, nothing counts twice.
-  module _ (same-eq : (x y : A) → same x y ≡ true → x ≡ y) where
-    fresh_along : (seen l : List A) → every (along unseen seen_with seen l) ≡ true
-        → ((x : A) → count x seen ≤ 1) → (x : A) → count x (seen ++ l) ≤ 1
-    fresh_along seen [] e h x = omega (arith, count_append x seen [], h x)
-    fresh_along seen (a ∷ l) e h x =
-        let p = both_true (not (elem a seen)) (every (along unseen seen_with (seen ++ (a ∷ [])) l)) e in
-        let z : count a seen ≡ 0 = elem_false a seen (not-true (elem a seen) p.0) in
-        rw (← append_snoc seen a l)
-        (fresh_along (seen ++ (a ∷ [])) l p.1
-        (λ y. bool_cases (same y a)
-        (λ q. let w : count y seen ≡ count a seen = ap (λ (v : A). count v seen) (same-eq y a q) in
-        rw count_append (rw q (omega arith)))
-        (λ q. rw count_append (rw q (omega (arith, h y)))))
-        x)
-
-    pub fresh_count : (l : List A) → every (fresh l) ≡ true → (x : A) → count x l ≤ 1
-    fresh_count l e x = fresh_along [] l e (λ y. omega arith) x
-
-  -- If nothing counts twice, the tests pass.
+  -- If the test of sameness passes for each element and itself.
   module _ (same_refl : (x : A) → same x x ≡ true) where
-    along_count : (seen l : List A) → ((x : A) → count x (seen ++ l) ≤ 1) → every (along unseen seen_with seen l) ≡ true
-    along_count seen [] h = refl
-    along_count seen (a ∷ l) h = bool_cases (elem a seen)
-        (λ e. let r : bit (same a a) ≡ 1 = rw (same_refl a) in
-        absurd (omega (arith, h a, count_append a seen (a ∷ l), elem_true a seen e)))
-        (λ e. rw e (along_count (seen ++ (a ∷ [])) l (λ x. rw append_snoc (h x))))
-
-    pub count_fresh : (l : List A) → ((x : A) → count x l ≤ 1) → every (fresh l) ≡ true
-    count_fresh l h = along_count [] l h
-
     -- The element at a place is in the list.
     pub elem_at : (l : List A) (i : ℕ) (d : A) → i < length l → elem (get_or l i d) l ≡ true
     elem_at [] i d h = absurd (omega arith)

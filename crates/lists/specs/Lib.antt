@@ -2,4 +2,3 @@ pub mod Bools
 pub mod Tests
 pub mod Slices
 pub mod Counting
-pub mod Loops

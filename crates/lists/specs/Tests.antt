@@ -1,10 +1,10 @@
 -- A rule over a list is a list of tests, one for each element. The rule holds if every test passes; where it does not, the
 -- first test that fails tells the position of the fault.
-use Rattle.std.specs.Prelude.{ℕ, zero, suc, ◌+◌, ◌≤◌, ◌<◌, ◌≡◌, refl, List, [], ◌∷◌, ◌++◌, Bool, true, false, cond, ◌&&◌, ◌||◌, eqb, ltb, length, get_or, take, drop}
-use Rattle.std.proofs.Common.{sym, ap, ◌∙◌, arith, suc-add, eq-eqb, ne_eqb, lt-ltb}
+use Rattle.std.specs.Prelude.{ℕ, zero, suc, ◌+◌, ◌≤◌, ◌<◌, ◌≡◌, refl, List, [], ◌∷◌, ◌++◌, Bool, true, false, cond, ◌&&◌, ◌||◌, ltb, length, get_or, take, drop}
+use Rattle.std.proofs.Common.{sym, ap, ◌∙◌, arith, suc-add, lt-ltb}
 use Rattle.std.proofs.lemmas.Bool.{false≢true}
 use Rattle.std.proofs.Math.Dec.{leb-suc-suc}
-use Rattle.lists.specs.Bools.{bool_cases, both_true, true_both, clash}
+use Rattle.lists.specs.Bools.{bool_cases, both_true, true_both}
 
 -- Do all tests pass?
 abbrev pub every : List Bool → Bool
@@ -60,11 +60,6 @@ pub every_failed : (ts : List Bool) → every ts ≡ true → first_failed ts �
 every_failed [] e = refl
 every_failed (true ∷ ts) e = ap suc (every_failed ts e)
 every_failed (false ∷ ts) e = absurd (false≢true e)
-
-pub failed_every : (ts : List Bool) (r n : ℕ) → r ≡ first_failed ts → length ts ≡ n → eqb r n ≡ every ts
-failed_every ts r n p q = bool_cases (every ts)
-    (λ e. rw e (eq-eqb r n (p ∙ every_failed ts e ∙ q)))
-    (λ e. rw e (ne_eqb r n (λ h. clash (none_failed ts (omega arith)) e)))
 
 -- Tests that are known to pass may be passed over.
 pub failed_skip : (k : ℕ) (ts : List Bool) → k ≤ length ts → every (take k ts) ≡ true → first_failed ts ≡ k + first_failed (drop k ts)

@@ -15,7 +15,8 @@ use Rattle.layout.specs.Facts.{IsInit, Valid}
 use Rattle.mapping.specs.Answers.{gives, refuses}
 use Rattle.mapping.specs.Homes.{in_object, home_in}
 use Rattle.mapping.specs.Lookup.{lookup_in}
-use Rattle.mapping.specs.HomeLaws.{holder, lookup_none, lookup_not_init, lookup_init}
+use Rattle.mapping.specs.HomeLaws.{holder, lookup_none, lookup_not_init}
+use Rattle.mapping.proofs.LookupLaws.{lookup_init}
 use Rattle.layout.specs.ArrayLaws.{component_at_lem}
 use Rattle.layout.proofs.Unread.{unread}
 use Rattle.mapping.proofs.Components.{read_at}

@@ -2,3 +2,8 @@ pub mod Components
 pub mod Found
 pub mod Owned
 pub mod UnitSteps
+pub mod BackLaws
+pub mod CutLaws
+pub mod CutTheorem
+pub mod UnitCutLaws
+pub mod LookupLaws

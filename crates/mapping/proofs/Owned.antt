@@ -18,7 +18,7 @@ use Rattle.layout.specs.Facts.{IsInit, Valid}
 use Rattle.mapping.specs.Answers.{gives, refuses, answer}
 use Rattle.mapping.specs.Homes.{in_object}
 use Rattle.mapping.specs.Back.{position_in, owner_of, owner, file_byte_in, hidden_refusal, back_refusal, byte_of, back_in}
-use Rattle.mapping.specs.BackLaws.{owner_elem, owner_has, elem_init}
+use Rattle.mapping.proofs.BackLaws.{owner_elem, owner_has, elem_init}
 use Rattle.layout.specs.ArrayLaws.{component_at_lem}
 use Rattle.layout.proofs.Unread.{unread}
 use Rattle.mapping.proofs.Components.{read_at, component_init}

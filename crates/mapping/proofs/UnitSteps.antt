@@ -13,7 +13,7 @@ use borrow.Author.Tests.{eqb-true, eqb-false}
 use Rattle.lists.specs.Bools.{bool_cases}
 use Rattle.lists.specs.Slices.{sets_append}
 use Rattle.stripe.specs.Stripe.{unit_of, stripe_of, object_byte}
-use Rattle.stripe.specs.Laws.{stripe_below, object_byte_le, unit_next_begin, next_on_next_stripe, next_on_first_stripe}
+use Rattle.stripe.proofs.Laws.{stripe_below, object_byte_le, unit_next_begin, next_on_next_stripe, next_on_first_stripe}
 use Rattle.mapping.specs.Cutting.{unit_end, unit_count, piece_from, unit_pieces, piece_numbers, all_numbers}
 use Rattle.mapping.specs.UnitLaws.{unit_end_lem, unit_count_within, unit_count_next, unit_count_last}
 use Rattle.mapping.specs.UnitLaws.{units_next, units_last}

@@ -1,5 +1,5 @@
 -- The laws of homes and of lookup. What is in quotes is document 01's.
-use Rattle.std.specs.Prelude.{ℕ, suc, ◌≤◌, ◌<◌, ◌≡◌, refl, List, [], ◌∷◌, Bool, false, ◌&&◌, ◌↔◌, ltb, leb}
+use Rattle.std.specs.Prelude.{ℕ, suc, ◌≤◌, ◌<◌, ◌≡◌, refl, List, [], ◌∷◌, Bool, false, ◌&&◌, ltb, leb}
 use Rattle.std.proofs.Common.{sym, ◌∙◌, arith}
 use Rattle.std.proofs.Math.Path.{ap}
 use Rattle.std.proofs.Math.Bool.{true, not}
@@ -15,7 +15,6 @@ use Rattle.layout.specs.Holder.{holds, holder_of, last_end}
 use Rattle.layout.specs.Facts.{Keeps}
 use Rattle.layout.specs.HolderLaws.{holder_holds, covers_holder, covers_last, at_most_one}
 use Rattle.mapping.specs.Answers.{gives, refuses}
-use Rattle.mapping.specs.AnswerLaws.{answer_gives}
 use Rattle.mapping.specs.Homes.{Home, home_in, init_at, in_init, reading_of, home_of, is_given, has_home}
 use Rattle.mapping.specs.Lookup.{not_init_at, lookup_refusal, lookup_in}
 
@@ -129,7 +128,7 @@ module _ {more : Bool} {cs : List Component} (k : Keeps more cs) (b : ℕ) where
   lookup_not_init h e = rw (not_past h, any_held (λ (c : Component). not c.init) h, e)
 
   -- If a component that holds the byte is init, lookup gives the home by it.
-  lookup_at : (i : ℕ) → i < length cs → init_at b (get_or cs i no_component) ≡ true
+  pub lookup_at : (i : ℕ) → i < length cs → init_at b (get_or cs i no_component) ≡ true
       → lookup_in b cs ≡ gives (some (home_in (get_or cs i no_component) b))
   unfolding lookup_in lookup_refusal
   lookup_at i h e =
@@ -138,18 +137,3 @@ module _ {more : Bool} {cs : List Component} (k : Keeps more cs) (b : ℕ) where
       let held : holder_of b cs < length cs = rw (← same) h in
       let init : (holder b cs).init ≡ true = rw (← same) (both_true c.init (holds c b) e).0 in
       rw (not_past held, any_held (λ (c : Component). not c.init) held, init, home_at i h e)
-
-  -- If the byte's component is init, lookup gives the home by it.
-  pub lookup_init : holder_of b cs < length cs → (holder b cs).init ≡ true
-      → lookup_in b cs ≡ gives (some (home_in (holder b cs) b))
-  lookup_init h e = lookup_at (holder_of b cs) h (true_both e (holder_holds b cs h))
-
-  -- Lookup gives a home exactly if it is the home of the byte.
-  pub lookup_home : (h : Home) → (lookup_in b cs ≡ gives (some h)) ↔ (home_of b cs ≡ some h)
-  unfolding lookup_in
-  lookup_home h = (
-    λ e. (answer_gives (lookup_refusal b cs) (home_of b cs) (some h) e).1,
-    λ e.
-        let r = home_position b cs h e in
-        lookup_at r.position r.below r.init_at_lem ∙ ap (λ (x : Home). gives (some x)) r.read_as,
-  )

@@ -8,13 +8,9 @@ pub mod CutPlaces
 pub mod CutFacts
 pub mod AnswerLaws
 pub mod HomeLaws
-pub mod BackLaws
 pub mod UnitLaws
 pub mod AskedLaws
 pub mod Acceptance
 pub mod TileLaws
-pub mod UnitCutLaws
-pub mod CutLaws
-pub mod CutTheorem
 pub mod CuttingLaws
 pub mod Samples

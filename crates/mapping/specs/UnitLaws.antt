@@ -4,7 +4,7 @@ use Rattle.std.proofs.Common.{ap, ◌∙◌, add-mul, mod-lt, div-add-mod', le-d
 use Rattle.std.proofs.Math.Nat.{div-eq_of_lt, mul-add-div_right, min-eq_left, min-eq_right}
 use Rattle.lists.specs.Bools.{cond_elim}
 use Rattle.stripe.specs.Stripe.{unit_of}
-use Rattle.stripe.specs.Laws.{unit_next}
+use Rattle.stripe.proofs.Laws.{unit_next}
 use Rattle.mapping.specs.declared.Piece.{Piece}
 use Rattle.mapping.specs.Cutting.{unit_end, unit_count, piece_from, unit_pieces}
 use Rattle.mapping.specs.Cutting.{piece_numbers, all_numbers}

@@ -1,3 +1,2 @@
 pub mod LentTable
-pub mod LentTableLaws
 pub mod RaisedTable

@@ -6,7 +6,7 @@ use Rattle.lists.specs.Slices.{map_first, first_all}
 use Rattle.layout.specs.declared.Object.{Object}
 use Rattle.free_table.specs.declared.TargetRecord.{TargetRecord}
 use Rattle.free_table.specs.ChosenFacts.{raised_in}
-use Rattle.free_table.specs.ChosenLaws.{raised_in_none}
+use Rattle.free_table.proofs.ChosenLaws.{raised_in_none}
 use Rattle.free_table.specs.Raising.{records_raised}
 
 -- No more records are looked at than there are.

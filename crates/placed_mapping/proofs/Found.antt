@@ -13,7 +13,8 @@ use Rattle.in_place.specs.Places.{components_at, ValidAt}
 use Rattle.mapping.specs.Answers.{gives, refuses}
 use Rattle.mapping.specs.Homes.{home_in}
 use Rattle.mapping.specs.Lookup.{lookup_in}
-use Rattle.mapping.specs.HomeLaws.{holder, lookup_none, lookup_not_init, lookup_init}
+use Rattle.mapping.specs.HomeLaws.{holder, lookup_none, lookup_not_init}
+use Rattle.mapping.proofs.LookupLaws.{lookup_init}
 use Rattle.placed_mapping.specs.ValidLaws.{valid_keeps, valid_length, valid_at}
 
 module _ (s ps : List ℕ) (n : ℕ) (v : ValidAt s n ps) (sixteen : length ps ≡ 16)

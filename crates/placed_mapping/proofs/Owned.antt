@@ -12,7 +12,7 @@ use Rattle.in_place.specs.Places.{components_at, ValidAt}
 use Rattle.mapping.specs.Answers.{refuses, answer}
 use Rattle.mapping.specs.Homes.{in_object}
 use Rattle.mapping.specs.Back.{owner_of, owner, file_byte_in, hidden_refusal, back_refusal, byte_of, back_in}
-use Rattle.mapping.specs.BackLaws.{owner_elem, owner_has, elem_init}
+use Rattle.mapping.proofs.BackLaws.{owner_elem, owner_has, elem_init}
 use Rattle.placed_mapping.specs.ValidLaws.{valid_length, valid_at, valid_init}
 
 module _ (s ps : List ℕ) (n : ℕ) (v : ValidAt s n ps) (sixteen : length ps ≡ 16)

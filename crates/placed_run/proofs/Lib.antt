@@ -1,1 +1,5 @@
 pub mod Taking
+pub mod PlacingLaws
+pub mod TurnLaws
+pub mod NextLaws
+pub mod FoundLaws

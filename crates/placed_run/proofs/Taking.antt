@@ -18,9 +18,9 @@ use Rattle.placed_run.specs.declared.Progress.{Progress}
 use Rattle.placed_run.specs.Placing.{next_refusal, with_page, placed_next}
 use Rattle.page.specs.Walked.{Walks}
 use Rattle.placed_run.specs.Progress.{placed_of, InRange, numbered}
-use Rattle.placed_run.specs.PlacingLaws.{next_taken}
-use Rattle.placed_run.specs.NextLaws.{next_1, next_3, next_4, next_5, next_rule, kept_refused, says_refused}
-use Rattle.placed_run.specs.NextLaws.{whole_head, all_places, new_places, all_within, kept_taken}
+use Rattle.placed_run.proofs.PlacingLaws.{next_taken}
+use Rattle.placed_run.proofs.NextLaws.{next_1, next_3, next_4, next_5, next_rule, kept_refused, says_refused}
+use Rattle.placed_run.proofs.NextLaws.{whole_head, all_places, new_places, all_within, kept_taken}
 
 -- What a call gives: the reading after the next page, and what is known of it.
 abbrev pub Gives : List ℕ → Progress → List ℕ → Progress → List ℕ → Type 0

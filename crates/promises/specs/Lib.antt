@@ -1,17 +1,2 @@
 pub mod Numbers
 pub mod Calls
-pub mod NumberLaws
-pub mod LookupLaws
-pub mod GrowthLaws
-pub mod CallLaws
-pub mod OutstandingLaws
-pub mod HostCallLaws
-pub mod Promises
-pub mod PromisesOfNumbers
-pub mod PromisesOfPageIn
-pub mod PromisesOfPageOut
-pub mod PromisesOfRoundTrip
-pub mod PromisesOfMapping
-pub mod PromisesOfCutting
-pub mod PromisesOfGrowth
-pub mod PromisesForC

@@ -23,7 +23,7 @@ use Rattle.collector.specs.Collector.{new_collector, gathered}
 use Rattle.collector.specs.Taking.{number_of, is_next, joined, accepted, content_refusal, page_refusal, settled, page_in}
 use Rattle.collector.specs.TakingLaws.{refused_open, refused_content, refused_rule}
 use Rattle.collector.specs.Sound.{Sound, facts_sound}
-use Rattle.collector.specs.RunLaws.{new_held}
+use Rattle.collector.proofs.RunLaws.{new_held}
 use Rattle.round_trip.specs.Pages.{read_pages, completed, components_in, some_pages, IsPage, ArePages}
 use Rattle.round_trip.specs.CompleteReading.{some_in_page}
 

@@ -26,7 +26,7 @@ use Rattle.collector.specs.Taking.{number_of, is_next, added, content_refusal, o
 use Rattle.collector.specs.TakingLaws.{settled_number, refused_1, refused_2, refused_3, refused_content, refused_open}
 use Rattle.collector.specs.Giving.{layout_out}
 use Rattle.collector.specs.Sound.{Sound, facts_sound, content_taken, view_joined, sound_added}
-use Rattle.collector.specs.RunLaws.{new_held}
+use Rattle.collector.proofs.RunLaws.{new_held}
 use Rattle.paging.specs.Paging.{is_some}
 use Rattle.round_trip.specs.Pages.{read_pages, completed, components_in, some_pages, ArePages}
 

@@ -29,9 +29,9 @@ use Rattle.collector.specs.TakingLaws.{settled_number}
 use Rattle.collector.specs.Giving.{layout_out}
 use Rattle.collector.specs.Sound.{facts_sound}
 use Rattle.collector.specs.Runs.{Next, ended, next, refused_at, closed, read_run, listed_cut, host_cut}
-use Rattle.collector.specs.RunLaws.{Held, read_from, open_taken, page_open, taken_held, taken_pages, read_closed}
-use Rattle.collector.specs.RunLaws.{read_ended, read_taken, closed_more, new_held, read_start}
-use Rattle.collector.specs.CutLaws.{listed_ended, listed_next, host_ended, host_page, host_ends}
+use Rattle.collector.proofs.RunLaws.{Held, read_from, open_taken, page_open, taken_held, taken_pages, read_closed}
+use Rattle.collector.proofs.RunLaws.{read_ended, read_taken, closed_more, new_held, read_start}
+use Rattle.collector.proofs.CutLaws.{listed_ended, listed_next, host_ended, host_page, host_ends}
 use Rattle.round_trip.specs.Pages.{read_pages, written_pages, blanked, InMemory, back_to_back, listed}
 use Rattle.round_trip.specs.WriteThenRead.{written_read_back, written_given_back}
 use Rattle.round_trip.specs.CompleteReading.{answered_complete}

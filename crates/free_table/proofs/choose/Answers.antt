@@ -10,7 +10,7 @@ use Rattle.free_table.specs.declared.TargetRecord.{TargetRecord}
 use Rattle.free_table.specs.declared.Choice.{Choice}
 use Rattle.free_table.specs.Table.{no_record, table_of, usable}
 use Rattle.free_table.specs.Choosing.{chosen, choice_of}
-use Rattle.free_table.specs.ChoosingLaws.{table_facts, chosen_nil, chosen_few, chosen_targets}
+use Rattle.free_table.proofs.ChoosingLaws.{table_facts, chosen_nil, chosen_few, chosen_targets}
 use Rattle.free_table.proofs.Prefixes.{choose_more, first_packed}
 use Rattle.free_table.proofs.choose.Goals as goal
 

@@ -11,7 +11,7 @@ use Rattle.lists.specs.Slices.{take_next}
 use Rattle.free_table.specs.declared.TargetRecord.{TargetRecord}
 use Rattle.free_table.specs.Table.{no_record, with_records, usable}
 use Rattle.free_table.specs.Choosing.{chosen, raised_first}
-use Rattle.free_table.specs.ChoosingLaws.{chosen_nil}
+use Rattle.free_table.proofs.ChoosingLaws.{chosen_nil}
 use Rattle.free_table.proofs.Prefixes.{left_more, raise_more}
 use Rattle.free_table.proofs.raise.Goals as goal
 

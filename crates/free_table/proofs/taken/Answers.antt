@@ -5,8 +5,8 @@ use mathlib.Core.List.{[], ◌∷◌}
 use mathlib.Core.Bool.{true, false}
 use native.Mathlib.Omega.{arith}
 use Rattle.free_table.specs.Table.{usable}
-use Rattle.free_table.specs.TableLaws.{usable_next}
-use Rattle.free_table.specs.ChoosingLaws.{chosen_none}
+use Rattle.free_table.proofs.TableLaws.{usable_next}
+use Rattle.free_table.proofs.ChoosingLaws.{chosen_none}
 use Rattle.free_table.proofs.OneRecord.{one_taken, one_passed}
 use Rattle.free_table.proofs.taken.Goals as goal
 

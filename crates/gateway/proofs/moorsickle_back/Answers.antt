@@ -7,7 +7,7 @@ use Rattle.mapping.specs.Homes.{in_object}
 use Rattle.mapping.specs.Back.{back_refusal, byte_of, back_in, back_says}
 use Rattle.gateway.specs.Host.{back_number, offset_after}
 use Rattle.gateway.specs.LentAnswers.{stored_as}
-use Rattle.gateway.specs.FoundLaws.{found_refused, found_places, found_answer}
+use Rattle.gateway.proofs.FoundLaws.{found_refused, found_places, found_answer}
 use Rattle.gateway.proofs.moorsickle_back.Goals as goal
 
 pub returns-then-read-ne0 : goal.returns-then-read-ne0

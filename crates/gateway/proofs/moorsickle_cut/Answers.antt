@@ -7,8 +7,8 @@ use lib.ListN.{length}
 use Rattle.mapping.specs.Cutting.{cut_refusal, cut_count, cut_in, cut_says}
 use Rattle.gateway.specs.Host.{cut_number, pieces_after, count_after}
 use Rattle.gateway.specs.LentAnswers.{stored_as}
-use Rattle.gateway.specs.HostLaws.{room_lent}
-use Rattle.gateway.specs.FoundLaws.{found_refused, found_places, found_own, found_components, found_answer}
+use Rattle.gateway.proofs.HostLaws.{room_lent}
+use Rattle.gateway.proofs.FoundLaws.{found_refused, found_places, found_own, found_components, found_answer}
 use Rattle.gateway.proofs.moorsickle_cut.Goals as goal
 
 pub returns-then-read-ne0 : goal.returns-then-read-ne0

@@ -5,7 +5,7 @@ use Rattle.mapping.specs.Homes.{home_of}
 use Rattle.mapping.specs.Lookup.{lookup_refusal, lookup_in, lookup_says}
 use Rattle.gateway.specs.Host.{home_numbers, lookup_number, home_after}
 use Rattle.gateway.specs.LentAnswers.{stored_as}
-use Rattle.gateway.specs.FoundLaws.{found_refused, found_places, found_answer}
+use Rattle.gateway.proofs.FoundLaws.{found_refused, found_places, found_answer}
 use Rattle.gateway.proofs.moorsickle_lookup.Goals as goal
 
 pub returns-then-read-ne0 : goal.returns-then-read-ne0

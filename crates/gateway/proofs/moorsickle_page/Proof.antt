@@ -8,8 +8,8 @@ use borrow.Author.Rules.{rules}
 use Rattle.paging.specs.Paging.{written_page, out_answer}
 use Rattle.gateway.specs.Host.{host_layout, page_number, buffer_after, written_after}
 use Rattle.gateway.specs.LentAnswers.{written_says, stored_as, written_says_lem}
-use Rattle.gateway.specs.HostLaws.{buffer_lent}
-use Rattle.gateway.specs.FoundLaws.{found_refused, found_own, found_valid, found_layout}
+use Rattle.gateway.proofs.HostLaws.{buffer_lent}
+use Rattle.gateway.proofs.FoundLaws.{found_refused, found_own, found_valid, found_layout}
 use Rattle.gateway.proofs.moorsickle_page.Statement.{statement}
 use Rattle.gateway.proofs.moorsickle_page.Tie as tie
 

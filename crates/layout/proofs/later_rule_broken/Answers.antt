@@ -6,7 +6,8 @@ use native.Mathlib.Omega.{arith}
 use lib.Dec.{eqb}
 use lib.ListN.{length, take, length-map}
 use lib.Seq.{length-take-le}
-use Rattle.lists.specs.Tests.{every, first_failed, length_along, failed_every}
+use Rattle.lists.specs.Tests.{every, first_failed, length_along}
+use Rattle.lists.proofs.TestLaws.{failed_every}
 use Rattle.lists.specs.Counting.{unseen, seen_with}
 use Rattle.layout.specs.declared.Outline.{Outline}
 use Rattle.layout.specs.Records.{view, neighbours_of, id_of, ids_of}

@@ -10,7 +10,7 @@ use Rattle.layout.specs.Rules.{valid}
 use Rattle.layout.specs.FactLaws.{valid_facts}
 use Rattle.collector.specs.declared.Reading.{Reading}
 use Rattle.collector.specs.Runs.{read_run, listed_cut}
-use Rattle.collector.specs.ValidRuns.{run_valid}
+use Rattle.collector.proofs.ValidRuns.{run_valid}
 use Rattle.listing.specs.Listing.{listing_of}
 use Rattle.listing.proofs.put_listing.Goals as goal
 

@@ -2,7 +2,7 @@
 -- of all the lent records.
 use Rattle.std.proofs.Common.{◌∙◌, arith}
 use Rattle.moorsickle.specs.LentTable.{loaded_of}
-use Rattle.moorsickle.specs.LentTableLaws.{grown_count, grown_says}
+use Rattle.moorsickle.proofs.LentTableLaws.{grown_count, grown_says}
 use Rattle.growth_rules.specs.Growing.{grow_of}
 use Rattle.growth.specs.Answers.{GrownSays, call_of}
 use Rattle.moorsickle.proofs.grow.Goals as goal

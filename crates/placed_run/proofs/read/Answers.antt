@@ -2,7 +2,7 @@
 use mathlib.Core.Path.{sym, ◌∙◌}
 use mathlib.Core.List.{[]}
 use native.Mathlib.Omega.{arith}
-use Rattle.placed_run.specs.Found.{finds_repeat, finds_refused, finds}
+use Rattle.placed_run.proofs.FoundLaws.{finds_repeat, finds_refused, finds}
 use Rattle.placed_run.proofs.read.Goals as goal
 
 pub distinct-requires : goal.distinct-requires

@@ -4,7 +4,7 @@ use mathlib.Core.Path.{sym, ap, subst, ◌∙◌}
 use native.Mathlib.Omega.{arith}
 use Rattle.placed_run.specs.Placing.{Placed}
 use Rattle.placed_run.specs.Progress.{placed_of}
-use Rattle.placed_run.specs.TurnLaws.{placed_from, turns_left, turn_start, turn_end, turn_next, turn_less}
+use Rattle.placed_run.proofs.TurnLaws.{placed_from, turns_left, turn_start, turn_end, turn_next, turn_less}
 use Rattle.placed_run.proofs.read_on.Goals as goal
 
 pub loop-p-init : goal.loop-p-init

@@ -2,7 +2,7 @@
 use mathlib.Core.Path.{◌≡◌}
 use Rattle.placed_run.specs.Placing.{placed_run}
 use Rattle.placed_run.specs.Progress.{placed_of, InRange}
-use Rattle.placed_run.specs.TurnLaws.{placed_from, turns_left}
+use Rattle.placed_run.proofs.TurnLaws.{placed_from, turns_left}
 use Rattle.placed_run.proofs.read_on.Given as goal
 
 abbrev pub invariant-loop-p : goal.invariant-loop-p

@@ -4,7 +4,7 @@ use Prim.Native.Nat.{◌+◌, ◌*◌, ◌/◌, ◌%◌, ◌≤◌}
 use mathlib.Core.Path.{◌≡◌}
 use native.Mathlib.Omega.{arith}
 use Rattle.stripe.specs.Stripe.{object_byte}
-use Rattle.stripe.specs.Laws.{object_byte_le}
+use Rattle.stripe.proofs.Laws.{object_byte_le}
 use Rattle.stripe.proofs.object_byte.Goals as goal
 
 -- The sum that is computed is the object byte, and at most the file byte.

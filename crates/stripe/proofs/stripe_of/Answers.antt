@@ -3,7 +3,7 @@ use Prim.Native.Nat.{◌%◌, ◌<◌}
 use mathlib.Core.Path.{◌≡◌}
 use native.Mathlib.Omega.{arith}
 use Rattle.stripe.specs.Stripe.{stripe_of}
-use Rattle.stripe.specs.Laws.{stripe_below}
+use Rattle.stripe.proofs.Laws.{stripe_below}
 use Rattle.stripe.proofs.stripe_of.Goals as goal
 
 -- The remainder that is computed is the stripe, and below the stripe count.

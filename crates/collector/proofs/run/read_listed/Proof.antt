@@ -13,9 +13,9 @@ use Rattle.collector.specs.declared.Taken.{Taken}
 use Rattle.collector.specs.Taking.{number_of, open_in}
 use Rattle.collector.specs.Runs.{broken, next, refused_at, closed, read_run, listed_cut}
 use Rattle.collector.specs.Sound.{facts_sound}
-use Rattle.collector.specs.RunLaws.{Held, read_from, read_start, new_held, read_ended, read_broken, read_closed, closed_more, closed_none}
-use Rattle.collector.specs.RunLaws.{read_refused, read_taken, taken_held}
-use Rattle.collector.specs.CutLaws.{listed_ended, listed_cut_lem, listed_long, listed_short, listed_next_at, length_at}
+use Rattle.collector.proofs.RunLaws.{Held, read_from, read_start, new_held, read_ended, read_broken, read_closed, closed_more, closed_none}
+use Rattle.collector.proofs.RunLaws.{read_refused, read_taken, taken_held}
+use Rattle.collector.proofs.CutLaws.{listed_ended, listed_cut_lem, listed_long, listed_short, listed_next_at, length_at}
 use borrow.Author.Rules.{rules}
 use Rattle.collector.proofs.run.read_listed.Statement.{statement}
 use Rattle.collector.proofs.run.read_listed.Tie as tie

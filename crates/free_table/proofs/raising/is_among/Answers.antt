@@ -2,7 +2,7 @@
 use mathlib.Core.Path.{refl, sym, ◌∙◌}
 use native.Mathlib.Omega.{arith}
 use borrow.Author.Rules.{rules}
-use Rattle.lists.specs.Loops.{row_pass, row_hit, row_done}
+use Rattle.lists.proofs.Loops.{row_pass, row_hit, row_done}
 use Rattle.layout.specs.Records.{no_object}
 use Rattle.layout.specs.Rows.{object_of}
 use Rattle.layout.specs.Distinct.{same_object}

@@ -4,7 +4,7 @@ use native.Mathlib.Omega.{arith}
 use lib.Dec.{eqb}
 use borrow.Author.Rules.{rules}
 use borrow.Author.Tests.{eq-eqb, ne_eqb}
-use Rattle.lists.specs.Loops.{row_pass, row_hit, row_done}
+use Rattle.lists.proofs.Loops.{row_pass, row_hit, row_done}
 use Rattle.free_table.proofs.scanning.is_listed.Goals as goal
 
 pub returns-then-target-targets : goal.returns-then-target-targets

@@ -4,12 +4,12 @@ use native.Mathlib.Omega.{arith}
 use borrow.Author.Rules.{rules}
 use Rattle.mapping.specs.Answers.{Answer}
 use Rattle.growth_rules.specs.Growing.{Effect}
-use Rattle.growth_rules.specs.ValidityLaws.{grow_valid}
+use Rattle.growth_rules.proofs.ValidityLaws.{grow_valid}
 use Rattle.gateway.specs.Host.{host_reading, host_layout}
 use Rattle.gateway.specs.HostGrowth.{host_grown, later_number, grow_number, home_number, table_after, grown_after, answer_after}
 use Rattle.gateway.specs.LentWords.{StepSays}
-use Rattle.gateway.specs.FoundLaws.{found_refused, found_read, found_valid, found_layout}
-use Rattle.gateway.specs.HostGrowthLaws.{growth_refused, growth_accepted, results_given}
+use Rattle.gateway.proofs.FoundLaws.{found_refused, found_read, found_valid, found_layout}
+use Rattle.gateway.proofs.HostGrowthLaws.{growth_refused, growth_accepted, results_given}
 use Rattle.gateway.proofs.growing.moorsickle_grow.Statement.{statement}
 use Rattle.gateway.proofs.growing.moorsickle_grow.Tie as tie
 

@@ -3,7 +3,7 @@ use mathlib.Core.Path.{subst}
 use Rattle.free_table.specs.declared.Table.{Table}
 use Rattle.growth_rules.specs.Growing.{grow_in}
 use Rattle.growth.specs.Answers.{call_of, GrownSays}
-use Rattle.gateway.specs.HostGrowthLaws.{step_says}
+use Rattle.gateway.proofs.HostGrowthLaws.{step_says}
 use Rattle.gateway.proofs.growing.step.Goals as goal
 
 pub returns : goal.returns

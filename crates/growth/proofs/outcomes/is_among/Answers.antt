@@ -5,7 +5,7 @@ use mathlib.Core.Path.{refl, sym, ◌∙◌}
 use native.Mathlib.Omega.{arith}
 use lib.ListN.{length}
 use borrow.Author.Rules.{rules}
-use Rattle.lists.specs.Loops.{row_pass, row_hit, row_done}
+use Rattle.lists.proofs.Loops.{row_pass, row_hit, row_done}
 use Rattle.layout.specs.Records.{no_object}
 use Rattle.layout.specs.Rows.{named, get_d_named, length_named}
 use Rattle.layout.specs.Distinct.{same_object}

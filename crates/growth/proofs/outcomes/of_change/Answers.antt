@@ -7,10 +7,10 @@ use Rattle.layout.specs.Records.{view}
 use Rattle.layout.specs.FactLaws.{valid_facts}
 use Rattle.mapping.specs.Answers.{Answer, gives}
 use Rattle.mapping.specs.Homes.{has_home}
-use Rattle.free_table.specs.ChoosingLaws.{table_count}
+use Rattle.free_table.proofs.ChoosingLaws.{table_count}
 use Rattle.growth_rules.specs.Steps.{Call, changes}
 use Rattle.growth_rules.specs.Growing.{Effect, Outcome, step_of, outcome_of}
-use Rattle.growth_rules.specs.ValidityLaws.{changed_valid}
+use Rattle.growth_rules.proofs.ValidityLaws.{changed_valid}
 use Rattle.growth.specs.declared.Plan.{Plan}
 use Rattle.growth.specs.Answers.{call_of, GrownSays}
 use Rattle.growth.specs.Plans.{planned, planned_objects, PlanFor}

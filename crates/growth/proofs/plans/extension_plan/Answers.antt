@@ -9,7 +9,7 @@ use Rattle.layout.specs.Records.{ids_of}
 use Rattle.layout.proofs.Unread.{unread}
 use Rattle.free_table.specs.declared.Table.{Table}
 use Rattle.free_table.specs.Table.{table_of}
-use Rattle.free_table.specs.ChoosingLaws.{table_count}
+use Rattle.free_table.proofs.ChoosingLaws.{table_count}
 use Rattle.growth_rules.specs.Parts.{fresh_id}
 use Rattle.growth.specs.Plans.{extension_plan}
 use Rattle.growth.specs.PlanCases.{few_stripes, extension_chooses, extension_grants, extension_low}

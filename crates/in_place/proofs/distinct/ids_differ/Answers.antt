@@ -7,7 +7,8 @@ use native.Mathlib.Numerals.{add-one}
 use lib.Dec.{eqb}
 use lib.ListN.{length, take, replicate, length-map}
 use lib.Seq.{sets}
-use Rattle.lists.specs.Tests.{first_failed, length_along, failed_every}
+use Rattle.lists.specs.Tests.{first_failed, length_along}
+use Rattle.lists.proofs.TestLaws.{failed_every}
 use Rattle.lists.specs.Counting.{fresh, unseen, seen_with}
 use Rattle.lists.specs.Slices.{take_sets_map}
 use Rattle.layout.specs.Records.{id_of, ids_of}

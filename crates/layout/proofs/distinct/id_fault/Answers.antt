@@ -5,7 +5,7 @@ use mathlib.Core.Path.{refl, sym, ◌∙◌}
 use native.Mathlib.Omega.{arith}
 use lib.Dec.{eqb}
 use borrow.Author.Tests.{eq-eqb, ne_eqb}
-use Rattle.lists.specs.Loops.{scan_start, scan_pass, scan_hit, scan_done, row_pass, row_hit, row_done}
+use Rattle.lists.proofs.Loops.{scan_start, scan_pass, scan_hit, scan_done, row_pass, row_hit, row_done}
 use borrow.Author.Rules.{rules}
 use Rattle.layout.proofs.distinct.id_fault.Goals as goal
 

@@ -4,7 +4,8 @@ use mathlib.Core.List.{List}
 use native.Mathlib.Omega.{arith}
 use lib.ListN.{length, take, replicate}
 use lib.Seq.{take-take}
-use Rattle.lists.specs.Tests.{first_failed, length_along, failed_every}
+use Rattle.lists.specs.Tests.{first_failed, length_along}
+use Rattle.lists.proofs.TestLaws.{failed_every}
 use Rattle.lists.specs.Counting.{fresh, unseen, seen_with}
 use Rattle.layout.specs.declared.Object.{Object}
 use Rattle.layout.specs.Records.{records_in, view}

@@ -9,7 +9,7 @@ use lib.ListN.{length, get_or, take}
 use lib.Seq.{slice}
 use Rattle.lists.specs.Tests.{first_failed, along}
 use Rattle.lists.specs.Counting.{elem, unseen, seen_with}
-use Rattle.lists.specs.Loops.{scan_start, scan_pass, scan_hit, scan_done, row_pass, row_hit, row_done}
+use Rattle.lists.proofs.Loops.{scan_start, scan_pass, scan_hit, scan_done, row_pass, row_hit, row_done}
 use Rattle.layout.specs.declared.Object.{Object}
 use Rattle.layout.specs.Records.{no_object}
 use Rattle.layout.specs.Rows.{object_of, named, get_d_named, length_named}

@@ -3,7 +3,7 @@ use Prim.Native.Nat.{◌-◌}
 use mathlib.Core.Path.{◌≡◌, sym, ◌∙◌}
 use native.Mathlib.Omega.{arith}
 use lib.ListN.{length}
-use Rattle.lists.specs.Loops.{ahead_start, ahead_pass, ahead_fail, ahead_done}
+use Rattle.lists.proofs.Loops.{ahead_start, ahead_pass, ahead_fail, ahead_done}
 use Rattle.layout.proofs.Unread.{unread}
 use borrow.Author.Rules.{rules}
 use Rattle.layout.proofs.fields.field_fault.Goals as goal

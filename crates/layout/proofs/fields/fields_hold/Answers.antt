@@ -3,7 +3,8 @@ use mathlib.Core.Path.{◌≡◌, ◌∙◌}
 use native.Mathlib.Omega.{arith}
 use lib.ListN.{length}
 use lib.Seq.{length-take-le}
-use Rattle.lists.specs.Tests.{length_ahead, failed_every}
+use Rattle.lists.specs.Tests.{length_ahead}
+use Rattle.lists.proofs.TestLaws.{failed_every}
 use Rattle.layout.specs.Records.{view}
 use Rattle.layout.specs.Fields.{field_tests}
 use Rattle.layout.specs.PrefixLaws.{prefix_fields}

@@ -3,7 +3,7 @@ use Prim.Native.Nat.{◌-◌}
 use mathlib.Core.Path.{sym, ◌∙◌}
 use native.Mathlib.Omega.{arith}
 use borrow.Author.Tests.{eq-eqb, ne_eqb}
-use Rattle.lists.specs.Loops.{along_start, along_pass, along_fail, along_done}
+use Rattle.lists.proofs.Loops.{along_start, along_pass, along_fail, along_done}
 use Rattle.layout.specs.Records.{no_neighbour}
 use Rattle.layout.specs.Neighbours.{begins_at, end_of}
 use borrow.Author.Rules.{rules}

@@ -4,7 +4,7 @@ use Prim.Native.Nat.{◌+◌, ◌-◌}
 use mathlib.Core.Path.{sym, ◌∙◌}
 use native.Mathlib.Omega.{arith}
 use Rattle.lists.specs.Slices.{slice_next}
-use Rattle.lists.specs.Loops.{ahead_start, ahead_pass, ahead_fail}
+use Rattle.lists.proofs.Loops.{ahead_start, ahead_pass, ahead_fail}
 use Rattle.layout.specs.Records.{no_neighbour}
 use Rattle.layout.specs.Neighbours.{empty_ok}
 use Rattle.layout.proofs.Ends.{empty_end}

@@ -1,7 +1,7 @@
 -- `layout::neighbours::end_before` meets its contract: the state after the first i components is the end of the last of them.
 use mathlib.Core.Path.{sym}
 use native.Mathlib.Omega.{arith}
-use Rattle.lists.specs.Loops.{after_before}
+use Rattle.lists.proofs.Loops.{after_before}
 use Rattle.layout.specs.Records.{no_neighbour}
 use Rattle.layout.specs.Neighbours.{end_of}
 use Rattle.layout.proofs.neighbours.end_before.Goals as goal

@@ -3,7 +3,7 @@ use Prim.Native.Nat.{◌-◌}
 use mathlib.Core.Path.{sym, ◌∙◌}
 use mathlib.Core.Bool.{false}
 use native.Mathlib.Omega.{arith}
-use Rattle.lists.specs.Loops.{along_start, along_pass, along_fail, along_done}
+use Rattle.lists.proofs.Loops.{along_start, along_pass, along_fail, along_done}
 use Rattle.layout.specs.Records.{no_neighbour}
 use Rattle.layout.specs.Neighbours.{follows_ok, may_follow}
 use borrow.Author.Rules.{rules}

@@ -2,7 +2,7 @@
 use mathlib.Core.Path.{sym}
 use mathlib.Core.Bool.{false}
 use native.Mathlib.Omega.{arith}
-use Rattle.lists.specs.Loops.{after_before}
+use Rattle.lists.proofs.Loops.{after_before}
 use Rattle.layout.specs.Records.{no_neighbour}
 use Rattle.layout.specs.Neighbours.{may_follow}
 use Rattle.layout.proofs.neighbours.may_before.Goals as goal

@@ -4,7 +4,8 @@ use mathlib.Core.Bool.{false}
 use native.Mathlib.Omega.{arith}
 use lib.ListN.{length, take}
 use lib.Seq.{length-take-le}
-use Rattle.lists.specs.Tests.{length_along, length_ahead, failed_every}
+use Rattle.lists.specs.Tests.{length_along, length_ahead}
+use Rattle.lists.proofs.TestLaws.{failed_every}
 use Rattle.layout.specs.Neighbours.{neighbours_hold, begin_tests, follow_tests, empty_tests, last_tests}
 use Rattle.layout.specs.Neighbours.{begins_at, end_of, follows_ok, may_follow, empty_ok, last_ok}
 use Rattle.layout.proofs.neighbours.neighbours_hold.Goals as goal

@@ -3,7 +3,7 @@
 use Prim.Native.Nat.{◌/◌}
 use native.Mathlib.Omega.{arith}
 use Rattle.listing.specs.Listing.{digit, decimal}
-use Rattle.listing.specs.DecimalLaws.{decimal_one, decimal_more, length_one, length_more}
+use Rattle.listing.proofs.DecimalLaws.{decimal_one, decimal_more, length_one, length_more}
 use Rattle.listing.proofs.Writing.{byte_after}
 use Rattle.listing.proofs.words.+put_decimal.Goals as goal
 

@@ -2,7 +2,7 @@
 -- them.
 use native.Mathlib.Omega.{arith}
 use Rattle.listing.specs.Listing.{decimal}
-use Rattle.listing.specs.DecimalLaws.{length_decimal}
+use Rattle.listing.proofs.DecimalLaws.{length_decimal}
 use Rattle.listing.proofs.Writing.{byte_after}
 use Rattle.listing.proofs.words.put_number.Goals as goal
 

@@ -17,7 +17,7 @@ use Rattle.layout.specs.FactLaws.{valid_facts}
 use Rattle.layout.specs.ArrayLaws.{component_next}
 use Rattle.layout.proofs.Unread.{unread}
 use Rattle.mapping.specs.Back.{owner_of}
-use Rattle.mapping.specs.BackLaws.{position_elem}
+use Rattle.mapping.proofs.BackLaws.{position_elem}
 use Rattle.mapping.proofs.Components.{read_at}
 use Rattle.mapping.proofs.objects.owner_of.Statement.{statement}
 use Rattle.mapping.proofs.objects.owner_of.Tie as tie

@@ -6,7 +6,7 @@ use native.Mathlib.Omega.{arith}
 use lib.ListN.{length}
 use borrow.Author.Rules.{rules}
 use Rattle.stripe.specs.Stripe.{unit_of, object_byte}
-use Rattle.stripe.specs.Laws.{object_byte_le}
+use Rattle.stripe.proofs.Laws.{object_byte_le}
 use Rattle.mapping.proofs.UnitSteps.{Known, known_by, known_next, left_some, row_end, stripe_less}
 use Rattle.mapping.proofs.UnitSteps.{Written, written_none, written_next, written_last, one_more}
 use Rattle.mapping.proofs.units.put_units.Statement.{statement}

@@ -1,7 +1,7 @@
 -- `moorsickle::growing::load` meets its contract: at i the table has the first i records in their places.
 use Rattle.std.proofs.Common.{◌≡◌, ◌<◌, length, ap, ◌∙◌, arith}
 use Rattle.moorsickle.specs.LentTable.{places_of, empty_table}
-use Rattle.moorsickle.specs.LentTableLaws.{load_none, load_more, load_all}
+use Rattle.moorsickle.proofs.LentTableLaws.{load_none, load_more, load_all}
 use Rattle.moorsickle.proofs.growing.load.Goals as goal
 
 pub loop-i-init : goal.loop-i-init

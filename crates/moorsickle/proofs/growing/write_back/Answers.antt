@@ -1,7 +1,7 @@
 -- `moorsickle::growing::write_back` meets its contract: at i the records have the first i next numbers.
 use Rattle.std.proofs.Common.{◌≡◌, ◌<◌, length, get_or, arith, length-take, get_or-take}
 use Rattle.free_table.specs.Table.{no_record, table_of}
-use Rattle.moorsickle.specs.LentTableLaws.{write_more}
+use Rattle.moorsickle.proofs.LentTableLaws.{write_more}
 use Rattle.moorsickle.proofs.growing.write_back.Goals as goal
 
 pub loop-i-preserved : goal.loop-i-preserved

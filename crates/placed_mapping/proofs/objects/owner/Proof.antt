@@ -20,7 +20,7 @@ use Rattle.page.specs.Content.{component_at}
 use Rattle.in_place.specs.Places.{components_at}
 use Rattle.in_place.specs.RecordLaws.{records_length}
 use Rattle.mapping.specs.Back.{owner_of}
-use Rattle.mapping.specs.BackLaws.{position_elem}
+use Rattle.mapping.proofs.BackLaws.{position_elem}
 use Rattle.placed_mapping.proofs.Turns.{first_here, first_later, first_none}
 use Rattle.placed_mapping.proofs.objects.owner.Statement.{statement}
 use Rattle.placed_mapping.proofs.objects.owner.Tie as tie

@@ -1,0 +1,3 @@
+pub mod HostLaws
+pub mod FoundLaws
+pub mod HostGrowthLaws

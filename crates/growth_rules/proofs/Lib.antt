@@ -1,0 +1,9 @@
+pub mod PartReplacing
+pub mod StepReplacing
+pub mod ReadingLaws
+pub mod ValidityLaws
+pub mod AcceptedLaws
+pub mod CallLaws
+pub mod MomentLaws
+pub mod Demand3
+pub mod CallCases

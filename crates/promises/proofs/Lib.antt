@@ -1,0 +1,15 @@
+pub mod NumberLaws
+pub mod CallLaws
+pub mod LookupLaws
+pub mod GrowthLaws
+pub mod OutstandingLaws
+pub mod HostCallLaws
+pub mod PromisesOfNumbers
+pub mod PromisesOfPageIn
+pub mod PromisesOfPageOut
+pub mod PromisesOfMapping
+pub mod PromisesOfCutting
+pub mod PromisesOfGrowth
+pub mod PromisesOfRoundTrip
+pub mod PromisesForC
+pub mod Promises

@@ -39,7 +39,7 @@ is_empty begin end = eqb begin end
 
 -- "A component that is not init is empty (begin = end) exactly if an extension directly follows".
 abbrev pub empty_before : Bool → ℕ → ℕ → Bool → Bool
-empty_before init begin end extensionFollows = init || beq (is_empty begin end) extensionFollows
+empty_before init begin end extension_follows = init || beq (is_empty begin end) extension_follows
 
 -- The same of a component and those after it: "this is asked once its follower is gathered."
 abbrev pub empty_ok : Neighbour → List Neighbour → Bool

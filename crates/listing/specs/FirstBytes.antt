@@ -73,9 +73,9 @@ module _ (left : ℕ) (ih : Decided left) (m : ℕ) (c : Collector) (s : List �
       (ih (m - (2 + w)) (page_in c p).collector (drop (2 + w) s) (omega arith))
       ∙ ap (following (read_on listed_cut left) c) (sym (listed_next s (omega arith) (omega arith) g (omega arith)))
 
-  on-bytes :
+  on_bytes :
       following (read_on listed_cut left) c (listed_cut (take m s)) ≡ following (read_on listed_cut left) c (listed_cut s)
-  on-bytes = bool_cases (leb (u16_at s 0) 512)
+  on_bytes = bool_cases (leb (u16_at s 0) 512)
       (λ e. on_page (leb-true (u16_at s 0) 512 e))
       (λ e. ap (following (read_on listed_cut left) c) (long_first m s (omega arith) k (leb-false (u16_at s 0) 512 e)))
 
@@ -86,7 +86,7 @@ on_first (suc left) m c s h = bool_cases (leb (length s) m)
     (λ e. ap (read_on listed_cut (suc left) c) (take_all m s (leb-true (length s) m e)))
     (λ e. let k : m < length s = leb-false (length s) m e in
     ap₂ (λ (a b : Reading). cond c.layout.complete a b) (closed_first c m s (omega arith))
-    (on-bytes left (on_first left) m c s h k))
+    (on_bytes left (on_first left) m c s h k))
 
 -- The listing of any bytes is that of their first m, if m is above 17 * 514.
 pub listing_first : (m : ℕ) (s : List ℕ) → 8738 < m → listing_of (take m s) ≡ listing_of s

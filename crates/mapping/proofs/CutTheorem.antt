@@ -60,8 +60,8 @@ module _ (cs : List Component) (k : Keeps false cs) where
       ) refl
 
   -- The theorem over components that keep the rules.
-  pub cut_in : (a m n : ℕ) → cut_refusal a m n cs ≡ 0 → Cut a m (cut_count a m cs) cs (cut_pieces a m cs)
-  cut_in a m n e =
+  pub cut_in_lem : (a m n : ℕ) → cut_refusal a m n cs ≡ 0 → Cut a m (cut_count a m cs) cs (cut_pieces a m cs)
+  cut_in_lem a m n e =
       let b = a + m in
       let ps = cut_pieces a m cs in
       let r = pieces_in cs k a m n (accepted_facts (last_end cs) a m n (spans_of cs) e) in
@@ -86,7 +86,7 @@ cut_right l a m n k e =
     let cs = view l in
     let p = checked_gives l (cut_refusal a m n cs) (cut_count a m cs) k e in
     let q = answer_gives (cut_refusal a m n cs) (cut_count a m cs) k p.1 in
-    rw q.1 at (cut_in cs (valid_facts l p.0).keeps a m n q.0)
+    rw q.1 at (cut_in_lem cs (valid_facts l p.0).keeps a m n q.0)
 
 -- A request of no bytes has none in a component,
 untouched : (a : ℕ) (c : Span) → touches a a c ≡ false

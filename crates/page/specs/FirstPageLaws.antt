@@ -9,7 +9,7 @@ use Rattle.lists.specs.Bools.{bool_cases, both_true, true_both, same_test}
 use Rattle.page.specs.Form.{object_form, objects_form, component_marks, records_at, component_end, component_form}
 use Rattle.page.specs.Form.{components_form, places_from, end_from, head_form, counted, page_end, form_by, page_form}
 use Rattle.page.specs.FormLaws.{component_within, components_parts, form_room, form_components, page_within}
-use Rattle.page.specs.FormLaws.{form_grows, form_shrinks, page_short, page_by, page_ends, page-of}
+use Rattle.page.specs.FormLaws.{form_grows, form_shrinks, page_short, page_by, page_ends, page_of}
 use Rattle.page.specs.Content.{object_at, objects_at, component_at, head_of, components_of}
 
 -- What is read of a record that lies in the first n bytes is read of these n bytes.
@@ -157,7 +157,7 @@ first_cut s e =
     let by : form_by n s ≡ true = form_shrinks m n s e (omega arith) in
     let l : length (take n s) ≡ n = length-take-le n s (omega arith) in
     let f : form_by (length (take n s)) (take n s) ≡ true = rw (l, form_take n s n (omega arith)) by in
-    (omega arith, page-of (take n s) (omega arith) f (page_end_take n s by ∙ sym l))
+    (omega arith, page_of (take n s) (omega arith) f (page_end_take n s by ∙ sym l))
 
 -- And if the bytes up to that end are there and are a page, the bytes begin with a page that ends so.
 pub cut_first : (s : List ℕ) → page_end s ≤ length s → page_form (take (page_end s) s) ≡ true

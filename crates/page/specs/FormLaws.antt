@@ -165,6 +165,6 @@ page_ends s e =
     eqb-true (page_end s) (length s)
     (both_true (leb (length s) 512 && form_by (length s) s) (eqb (page_end s) (length s)) e).1
 
-pub page-of : (s : List ℕ) → length s ≤ 512 → form_by (length s) s ≡ true → page_end s ≡ length s → page_form s ≡ true
+pub page_of : (s : List ℕ) → length s ≤ 512 → form_by (length s) s ≡ true → page_end s ≡ length s → page_form s ≡ true
 unfolding page_form
-page-of s h e f = true_both (true_both (le-leb (length s) 512 h) e) (eq-eqb (page_end s) (length s) f)
+page_of s h e f = true_both (true_both (le-leb (length s) 512 h) e) (eq-eqb (page_end s) (length s) f)

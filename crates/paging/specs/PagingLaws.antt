@@ -94,8 +94,8 @@ sizes_drop (suc n) [] = refl
 sizes_drop (suc n) (c ∷ cs) = sizes_drop n cs
 
 -- The components from page k + 1 on are those from page k on, without those of page k.
-pub next-page : (k : ℕ) (cs : List Component) → from_page (suc k) cs ≡ later_pages (from_page k cs)
-next-page k cs = rw (page_start_next k (sizes_of cs), ← drop-drop, sizes_drop)
+pub next_page : (k : ℕ) (cs : List Component) → from_page (suc k) cs ≡ later_pages (from_page k cs)
+next_page k cs = rw (page_start_next k (sizes_of cs), ← drop-drop, sizes_drop)
 
 -- The components of the first page and those after it are all.
 pub first_later : (cs : List Component) → first_page cs ++ later_pages cs ≡ cs

@@ -265,7 +265,7 @@ module _ (l : Layout) (a m : ℕ) (room : List ℕ) where
       room_cut n (cut_pieces a m (view l)) room (answer_gives n (cut_count a m (view l)) k e).0
 
   -- The cases of cutting.
-  pub cut-says :
+  pub cut_says_lem :
       ((k : ℕ) → cut_says (CutOut.Pieces k) ≡ cut_of a m (length room) l
       → Cut a m k (view l) (cut_pieces a m (view l))
       × (cut_room l a m room ≡ sets room 0 (all_numbers (cut_pieces a m (view l)))))
@@ -273,7 +273,7 @@ module _ (l : Layout) (a m : ℕ) (room : List ℕ) where
       ↔ RefusedBy n (cut_numbers l a m (length room)))
       × ((n : ℕ) → cut_says (CutOut.Refused n) ≡ cut_of a m (length room) l → cut_room l a m room ≡ room)
   unfolding cut_says
-  cut-says = (
+  cut_says_lem = (
     λ k e. (cut_right l a m (length room) k (sym e), cut_filled k (sym e)),
     refused_exactly (cut_of a m (length room) l) (cut_numbers l a m (length room)) (cut_number_lem l a m (length room))
         cut_some_number,

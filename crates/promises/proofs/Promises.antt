@@ -109,7 +109,7 @@ pub cut : (l : Layout) (a m : ℕ) (room : List ℕ)
     × ((n : ℕ) → (cut_says (CutOut.Refused n) ≡ cut_of a m (length room) l)
     ↔ RefusedBy n (cut_numbers l a m (length room)))
     × ((n : ℕ) → cut_says (CutOut.Refused n) ≡ cut_of a m (length room) l → cut_room l a m room ≡ room)
-cut = calls.cut-says
+cut = calls.cut_says_lem
 
 -- "Growth: 1, 10, 15 to 19." A call that is refused leaves the layout and the table as they were.
 pub growth_refused : (l : Layout) (k : Call) (n : ℕ)

@@ -1,7 +1,7 @@
 -- The promises on the entry points for C, over the bytes of the pages. `Promises` says how to read it. Each contract in
--- crates/gateway/src says that the call returns `..Number` and that each lent place holds `..After`. `hostReading
--- pages` is the reading of the pages back to back (`readRun host_cut pages`), and `hostLayout pages` the layout that it
--- gives.
+-- crates/gateway/src says that the call returns `.._number` and that each lent place holds `.._after`. `host_reading
+-- pages` is the reading of the pages back to back (`read_run host_cut pages`), and `host_layout pages` the layout that
+-- it gives. The entry points in crates/gateway_c/src have the same contracts.
 -- Each promise is in two parts. If the reading is refused by n, the call returns n and leaves all that is lent: "a
 -- refusal of that reading comes first". If it is not, the call returns and stores what the public call of that name
 -- answers of the layout that was read, by the definitions that `Promises` names. What is in quotes is document 01's.

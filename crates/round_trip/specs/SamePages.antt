@@ -21,7 +21,7 @@ use Rattle.page.specs.BytesLaws.{total}
 use Rattle.page.specs.ReadWritten.{components_at, read_whole, read_end, read_written}
 use Rattle.paging.specs.Paging.{fitting, sizes_of, from_page, first_page, later_pages, is_some, head_for}
 use Rattle.paging.specs.Paging.{page_from, written_page}
-use Rattle.paging.specs.PagingLaws.{next-page}
+use Rattle.paging.specs.PagingLaws.{next_page}
 use Rattle.round_trip.specs.Pages.{written_from, first_size, paged_by_rule, AllBytes, components_in, ArePages}
 use Rattle.round_trip.specs.CompleteReading.{some_left}
 
@@ -147,7 +147,7 @@ pages_same (suc n) k l (p ∷ ps) b a f e x h =
     let some : is_some (from_page k (view l)) ≡ true = ap is_some x ∙ some_left g k (p ∷ ps) a in
     let page : written_page l k ≡ p = ap (page_from g k) x ∙ page_same g k p ps a f e b.0 in
     let next : from_page (suc k) (view l) ≡ components_in ps =
-    next-page k (view l) ∙ ap later_pages x ∙ later_same g k p ps a f e in
+    next_page k (view l) ∙ ap later_pages x ∙ later_same g k p ps a f e in
     let few = few_right (components_of p) (components_in ps) f in
     let rest = pages_same n (suc k) l ps b.1 a.1 few (rule_after p ps e) next (omega arith) in
     rw (some, page, rest)

@@ -21,7 +21,7 @@ use Rattle.collector.specs.declared.Answer.TheVariants.{Complete}
 use Rattle.collector.specs.Collector.{new_collector}
 use Rattle.collector.specs.Giving.{layout_out}
 use Rattle.paging.specs.Paging.{in_page, sizes_of, from_page, first_page, later_pages, is_some, head_for, written_page}
-use Rattle.paging.specs.PagingLaws.{in_page_le, next-page, first_later}
+use Rattle.paging.specs.PagingLaws.{in_page_le, next_page, first_later}
 use Rattle.round_trip.specs.Pages.{read_pages, written_from, written_pages, blanked, InMemory}
 use Rattle.round_trip.specs.Pages.{components_in, some_pages, IsPage, ArePages}
 use Rattle.round_trip.specs.InMemory.{layout_fits}
@@ -104,7 +104,7 @@ written_from_lem l v m fits (suc n) k most =
     let page = page_back l v m k has fits in
     let r = written_from_lem l v m fits n (suc k) (omega (arith, start_rises l v k has)) in
     let component_end : components_in later ≡ map trimmed (later_pages rest) =
-    r.components ∙ ap (map trimmed) (next-page k (view l)) in
+    r.components ∙ ap (map trimmed) (next_page k (view l)) in
     let more : is_some (later_pages rest) ≡ some_pages later =
     sym (some_trimmed (later_pages rest)) ∙ ap is_some (sym component_end) ∙ some_left g (suc k) later r.pages in
     let first : IsPage g k (some_pages later) (written_page l k) =

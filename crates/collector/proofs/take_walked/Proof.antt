@@ -38,25 +38,25 @@ abbrev start : tie.After-struct_known-1 → tie.Start
 start c = (decoded c).before.before
 
 -- The layout was built of a page that is the next.
-abbrev next-page : tie.After-with_components-next → tie.After-struct_known-1
-next-page c = c.before.before
+abbrev next_page : tie.After-with_components-next → tie.After-struct_known-1
+next_page c = c.before.before
 
 -- The layout that was built.
-built : (c : tie.After-with_components-next) → (let a = (start (next-page c)).args in
+built : (c : tie.After-with_components-next) → (let a = (start (next_page c)).args in
     let s = a.s.now in
     c.with_components-next.result ≡ joined (head_of s) a.c.layout (components_of s))
 built c =
-    let h = decoded (next-page c) in
-    let s = start (next-page c) in
+    let h = decoded (next_page c) in
+    let s = start (next_page c) in
     next_is s.args.s.now s.args.places h.head_of-head.result s.args.c.layout c.with_components-next.result
     s.requires.2 h.head_of-head.ensures c.with_components-next.ensures
 
 -- Its first components break no rule with pages outstanding.
-kept : (c : tie.After-with_components-next) → (let a = (start (next-page c)).args in
+kept : (c : tie.After-with_components-next) → (let a = (start (next_page c)).args in
     RulesKnown a.c.layout.count c.with_components-next.result)
 kept c =
-    let h = decoded (next-page c) in
-    let s = start (next-page c) in
+    let h = decoded (next_page c) in
+    let s = start (next_page c) in
     let l = s.args.c.layout in
     let cs = components_of s.args.s.now in
     let n = count_is s.args.s.now h.head_of-head.result h.head_of-head.ensures in
@@ -66,13 +66,13 @@ kept c =
     (sound_facts s.args.c s.requires.0) s.requires.1 (omega arith))
 
 -- The number that is given is that of the rule which the components break, or 0.
-number : (c : tie.After-rule_broken_from-rule) → (let a = (start (next-page c.before)).args in
+number : (c : tie.After-rule_broken_from-rule) → (let a = (start (next_page c.before)).args in
     let s = a.s.now in
     content_refusal a.c (head_of s) (components_of s) ≡ c.rule_broken_from-rule.result)
 number c =
     let b = c in
-    let h = decoded (next-page b.before) in
-    let s = start (next-page b.before) in
+    let h = decoded (next_page b.before) in
+    let s = start (next_page b.before) in
     let a = s.args in
     let p = a.s.now in
     let l = a.c.layout in
@@ -84,7 +84,7 @@ number c =
     let m : h.head_of-head.result.more ≡ (head_of p).more = ap (λ (x : Head). x.more) h.head_of-head.ensures in
     let r : c.rule_broken_from-rule.result ≡ rule_broken h.head_of-head.result.more (view b.with_components-next.result) =
     c.rule_broken_from-rule.ensures in
-    let i = (next-page b.before) in
+    let i = (next_page b.before) in
     refused_rule a.c (head_of p) cs (is_next_lem i.before.before (ap not i.if-not-is_next.false)) (omega arith)
     ∙ sym (r ∙ ap₂ rule_broken m v)
 
@@ -135,14 +135,14 @@ returns-3 : tie.Need-returns-then-rule-ne0
 returns-3 c =
     let r = c in
     let b = r in
-    let a = (start (next-page b.before.before.before)).args in
+    let a = (start (next_page b.before.before.before)).args in
     let s = a.s.now in
     c.refused-then-rule-ne0.ensures (head_of s) (components_of s)
     ∙ sym (ap (λ (k : ℕ). settled k a.c (head_of s) (components_of s)) (number r.before.before))
 
 add-accept : tie.Need-overflow_add-c
 add-accept c =
-    let s = start (next-page c.before.before.before) in
+    let s = start (next_page c.before.before.before) in
     let k = sound_facts s.args.c s.requires.0 in
     record { fits = omega (arith, k.within, k.few) }
 
@@ -151,8 +151,8 @@ unfolding settled
 returns-4 c =
     let r = c in
     let b = r in
-    let h = decoded (next-page b.before.before.before.before) in
-    let a = (start (next-page b.before.before.before.before)).args in
+    let h = decoded (next_page b.before.before.before.before) in
+    let a = (start (next_page b.before.before.before.before)).args in
     let s = a.s.now in
     let m : h.head_of-head.result.more ≡ (head_of s).more = ap (λ (x : Head). x.more) h.head_of-head.ensures in
     let z : content_refusal a.c (head_of s) (components_of s) ≡ 0 = number r.before.before.before ∙ omega arith in

@@ -111,8 +111,8 @@ take-next-requires c κs =
     facts_sound l.loop-c.c l.loop-c.invariant.1.sound
 
 -- The page that was cut from the bytes, the bytes after it, and what taking it gives.
-abbrev page-of : tie.After-take_next-taken invariant-loop decreases-loop → List ℕ
-page-of c =
+abbrev page_of : tie.After-take_next-taken invariant-loop decreases-loop → List ℕ
+page_of c =
     let l = turn (lengthened (measured c)) in
     take (measured c).u16_at-length.result (drop (l.loop-c.at + 2) (whole l))
 
@@ -122,7 +122,7 @@ rest_of c =
     drop (l.loop-c.at + 2 + (measured c).u16_at-length.result) (whole l)
 
 taken_is : (c : tie.After-take_next-taken invariant-loop decreases-loop)
-    → c.take_next-taken.result ≡ open_in (turn (lengthened (measured c))).loop-c.c (page-of c)
+    → c.take_next-taken.result ≡ open_in (turn (lengthened (measured c))).loop-c.c (page_of c)
 taken_is c =
     let l = turn (lengthened (measured c)) in
     let from = l.loop-c.at + 2 in
@@ -131,14 +131,14 @@ taken_is c =
     c.take_next-taken.ensures ∙ ap (λ (m : ℕ). open_in l.loop-c.c (take m (drop from (whole l)))) e
 
 cut_is : (c : tie.After-take_next-taken invariant-loop decreases-loop)
-    → listed_cut (rest (turn (lengthened (measured c)))) ≡ next (page-of c) (rest_of c)
+    → listed_cut (rest (turn (lengthened (measured c)))) ≡ next (page_of c) (rest_of c)
 cut_is c =
     let l = turn (lengthened (measured c)) in
     listed_next_at (whole l) l.loop-c.at (measured c).u16_at-length.result (measured c).u16_at-length.ensures
     (omega arith) (omega arith) (omega arith)
 
 number_is : (c : tie.After-number_of-number invariant-loop decreases-loop)
-    → number_of (open_in (turn (lengthened (measured c.before))).loop-c.c (page-of c.before)).answer ≡ c.number_of-number.result
+    → number_of (open_in (turn (lengthened (measured c.before))).loop-c.c (page_of c.before)).answer ≡ c.number_of-number.result
 number_is c = sym (c.number_of-number.ensures ∙ ap (λ (r : Taken). number_of r.answer) (taken_is c.before))
 
 returns-5 : tie.Need-returns-then-number-ne0 invariant-loop decreases-loop
@@ -148,23 +148,23 @@ returns-5 c =
     let w = lengthened (measured q.before.before.before) in
     let l = turn w in
     c.refused_at-then-number-ne0.ensures
-    ∙ gives l (read_refused l.loop-c.c l.loop-c.invariant.1 listed_cut (rest l) (wanted w) (page-of q.before.before.before) (rest_of q.before.before.before) (cut_is q.before.before.before)
+    ∙ gives l (read_refused l.loop-c.c l.loop-c.invariant.1 listed_cut (rest l) (wanted w) (page_of q.before.before.before) (rest_of q.before.before.before) (cut_is q.before.before.before)
     m.number_of-number.result (number_is m.before.before) (omega arith))
 
 -- The page was taken by no number: the reading goes on from there.
 goes_on_lem : (c : tie.After-take_next-taken invariant-loop decreases-loop) →
     (let l = turn (lengthened (measured c)) in
-    number_of (open_in l.loop-c.c (page-of c)).answer ≡ 0 → Held c.take_next-taken.result.collector
+    number_of (open_in l.loop-c.c (page_of c)).answer ≡ 0 → Held c.take_next-taken.result.collector
     × (read_run listed_cut (whole l) ≡ read_from listed_cut c.take_next-taken.result.collector (rest_of c)))
 goes_on_lem c k =
     let w = lengthened (measured c) in
     let l = turn w in
     let p = l.loop-c.c in
     let held = l.loop-c.invariant.1 in
-    let e : (open_in p (page-of c)).collector ≡ c.take_next-taken.result.collector =
+    let e : (open_in p (page_of c)).collector ≡ c.take_next-taken.result.collector =
     sym (ap (λ (r : Taken). r.collector) (taken_is c)) in (
-      subst Held e (taken_held p held (page-of c) k),
-      l.loop-c.invariant.2 ∙ read_taken p held listed_cut (rest l) (wanted w) (page-of c) (rest_of c) (cut_is c) k
+      subst Held e (taken_held p held (page_of c) k),
+      l.loop-c.invariant.2 ∙ read_taken p held listed_cut (rest l) (wanted w) (page_of c) (rest_of c) (cut_is c) k
           ∙ ap (λ (y : Collector). read_from listed_cut y (rest_of c)) e,
     )
 

@@ -1,6 +1,6 @@
 -- What a caller of the collector may rely on, over all collectors and all bytes.
 use Rattle.std.specs.Prelude.{ℕ, zero, suc, ◌<◌, ◌≡◌, refl, List, true, false, cond}
-use Rattle.std.proofs.Common.{ap, ◌∙◌, arith}
+use Rattle.std.proofs.Common.{ap, arith}
 use Rattle.lists.specs.Bools.{bool_cases}
 use Rattle.layout.specs.declared.Component.{Component}
 use Rattle.layout.specs.Records.{packed, no_layout}

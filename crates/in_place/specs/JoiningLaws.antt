@@ -1,5 +1,5 @@
 -- The rules of fields and of neighbours, asked of new components after old ones that keep them, are the rules asked of all.
-use Rattle.std.specs.Prelude.{ℕ, ◌<◌, ◌≡◌, refl, Bool, true, false, cond, ◌&&◌, ◌||◌, length}
+use Rattle.std.specs.Prelude.{◌<◌, ◌≡◌, refl, Bool, true, false, cond, ◌&&◌, ◌||◌, length}
 use Rattle.std.proofs.Math.Path.{sym, ap}
 use Rattle.std.proofs.Common.{◌∙◌, arith, eq-eqb, ne_eqb}
 use mathlib.Core.List.{List, [], ◌∷◌, ◌++◌, map-append}
@@ -7,7 +7,7 @@ use Rattle.std.proofs.Math.Bool.{not, and-true, and_assoc}
 use Rattle.std.proofs.Math.Dec.{eqb}
 use Rattle.std.proofs.lemmas.List.{length-map}
 use Rattle.lists.specs.Bools.{bool_cases, both_true}
-use Rattle.lists.specs.Tests.{every, along, ahead, each, after_append}
+use Rattle.lists.specs.Tests.{every, along, ahead, after_append}
 use Rattle.layout.specs.declared.Component.{Component}
 use Rattle.layout.specs.declared.Neighbour.{Neighbour}
 use Rattle.layout.specs.Records.{neighbour_of, neighbours_of}

@@ -1,5 +1,5 @@
 -- The next page: the number of its refusal test by test, and what is known once it is refused or taken.
-use Rattle.std.specs.Prelude.{ℕ, ◌+◌, ◌-◌, ◌≤◌, ◌<◌, min, ◌≡◌, refl, List, ◌++◌, map, true, false, eqb, leb, ltb, length, get_or, take, drop}
+use Rattle.std.specs.Prelude.{ℕ, ◌+◌, ◌-◌, ◌≤◌, ◌<◌, min, ◌≡◌, List, ◌++◌, map, true, false, eqb, ltb, length, get_or, take, drop}
 use Rattle.std.proofs.Common.{sym, ap, ◌∙◌, append_assoc, arith, length-append, length-take-le, get_or-take, get_or-append-add, take_at, drop_at}
 use Rattle.std.proofs.Math.ListN.{length-drop, get_or-map}
 use Rattle.std.proofs.lemmas.List.{length-map}
@@ -8,17 +8,17 @@ use Rattle.std.proofs.Math.Seq.{slice, length-sets}
 use borrow.Author.Tests.{ne_eqb, eq-eqb, le-leb, lt-leb, ltb-true, ltb-false}
 use Rattle.lists.specs.Bools.{bool_cases}
 use Rattle.lists.specs.Slices.{any_default}
-use Rattle.page.specs.Form.{records_at, component_end, counted, places_from, page_places, page_end, form_by}
+use Rattle.page.specs.Form.{component_end, counted, places_from, page_places, page_end, form_by}
 use Rattle.page.specs.Content.{head_of}
 use Rattle.page.specs.FormLaws.{length_places, place_within, form_room, form_components, page_within, some_components}
 use Rattle.collector.specs.Taking.{is_next}
 use Rattle.in_place.specs.Places.{components_at, Within}
 use Rattle.in_place.specs.Joining.{new_rule_broken}
 use Rattle.placed_run.specs.declared.Progress.{Progress}
-use Rattle.placed_run.specs.Placing.{Placed, next_refusal, with_page, placed_next}
+use Rattle.placed_run.specs.Placing.{Placed, next_refusal, placed_next}
 use Rattle.placed_run.specs.Progress.{placed_of, InRange, numbered}
 use Rattle.placed_run.specs.ShiftLaws.{records_shift}
-use Rattle.placed_run.proofs.PlacingLaws.{next_refused, next_taken}
+use Rattle.placed_run.proofs.PlacingLaws.{next_refused}
 
 -- The element at a position below n is that of the first n.
 same_first : (n i : ℕ) (xs ys : List ℕ) → take n xs ≡ take n ys → i < n → get_or xs i 0 ≡ get_or ys i 0

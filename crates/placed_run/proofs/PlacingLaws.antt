@@ -1,13 +1,13 @@
 -- Reading in place gives the number and the components that gathering a layout page by page gives. Distinctness asked once at the
 -- end gives the number that asking page by page gives.
-use Prim.Native.Nat.{ℕ, zero, suc, ◌+◌, ◌-◌, ◌≤◌, ◌<◌, min}
-use Rattle.std.specs.Prelude.{◌≡◌, List, [], ◌∷◌, ◌++◌, map, Bool, true, false, not, ◌&&◌, eqb, leb, length, take, drop}
+use Prim.Native.Nat.{ℕ, zero, suc, ◌+◌, ◌≤◌, ◌<◌, min}
+use Rattle.std.specs.Prelude.{◌≡◌, List, [], ◌++◌, Bool, true, false, not, eqb, leb, length, take, drop}
 use Rattle.std.proofs.Math.Path.{refl, sym, ap}
-use Rattle.std.proofs.Common.{ap₂, subst, ◌∙◌, append-nil, append_assoc, arith, length-drop, drop-drop, eqb-true, eq-eqb, ne_eqb, leb-true, leb-false, le-leb}
+use Rattle.std.proofs.Common.{ap₂, subst, ◌∙◌, append-nil, append_assoc, arith, length-drop, drop-drop, eqb-true, ne_eqb, leb-true, leb-false}
 use Rattle.std.proofs.lemmas.List.{map-append, length-map}
 use Rattle.std.proofs.Math.Bool.{cond, and-false}
 use Rattle.std.proofs.Math.Seq.{take-append_seam}
-use Rattle.std.proofs.lemmas.Bool.{eqb-false, lt-leb}
+use Rattle.std.proofs.lemmas.Bool.{eqb-false}
 use Rattle.lists.specs.Bools.{bool_cases, both_true, true_both, clash}
 use Rattle.lists.specs.Tests.{every, take_along, every_take}
 use Rattle.lists.specs.Counting.{fresh, unseen, seen_with}
@@ -30,7 +30,7 @@ use Rattle.collector.specs.Sound.{view_joined, content_taken}
 use Rattle.collector.proofs.RunLaws.{Held, read_from, read_start, new_held, read_ended, read_closed, closed_more, closed_none}
 use Rattle.collector.proofs.RunLaws.{read_refused, read_taken, taken_held}
 use Rattle.collector.proofs.CutLaws.{host_ended, host_fault, host_page, host_content}
-use Rattle.collector.specs.Runs.{refused_at, closed, read_run, host_cut}
+use Rattle.collector.specs.Runs.{refused_at, read_run, host_cut}
 use Rattle.in_place.specs.Places.{components_at}
 use Rattle.in_place.specs.Joining.{new_rule_broken}
 use Rattle.in_place.specs.JoiningLaws.{rule_new, rule_rest}

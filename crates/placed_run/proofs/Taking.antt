@@ -6,7 +6,6 @@ use mathlib.Core.Bool.{Bool, true, false, cond}
 use native.Mathlib.Omega.{arith}
 use lib.ListN.{length, take, drop, length-drop}
 use lib.Seq.{sets, slice}
-use Rattle.lists.specs.Bools.{bool_cases}
 use Rattle.page.specs.declared.Head.{Head}
 use Rattle.page.specs.Form.{counted, page_places, page_end, form_by}
 use Rattle.page.specs.Content.{head_of}
@@ -15,7 +14,7 @@ use Rattle.collector.specs.Taking.{is_next}
 use Rattle.in_place.specs.Places.{components_at, Within}
 use Rattle.in_place.specs.Joining.{new_rule_broken}
 use Rattle.placed_run.specs.declared.Progress.{Progress}
-use Rattle.placed_run.specs.Placing.{next_refusal, with_page, placed_next}
+use Rattle.placed_run.specs.Placing.{next_refusal, placed_next}
 use Rattle.page.specs.Walked.{Walks}
 use Rattle.placed_run.specs.Progress.{placed_of, InRange, numbered}
 use Rattle.placed_run.proofs.PlacingLaws.{next_taken}

@@ -1,8 +1,7 @@
 -- What is at a place of the bytes after a position is that much further in all bytes.
-use Rattle.std.specs.Prelude.{ℕ, ◌+◌, ◌-◌, ◌≡◌, refl, List, map, length, take, drop}
-use Rattle.std.proofs.Common.{sym, ap, ◌∙◌, arith, length-drop, take_all, drop-drop}
+use Rattle.std.specs.Prelude.{ℕ, ◌+◌, ◌-◌, ◌≡◌, List, map, length, take, drop}
+use Rattle.std.proofs.Common.{arith, length-drop, take_all, drop-drop}
 use Rattle.std.proofs.lemmas.Simd.{map-map}
-use Rattle.layout.specs.declared.Component.{Component}
 use Rattle.page.specs.Form.{records_at, counted, places_from, page_places}
 use Rattle.page.specs.Content.{component_at, components_of}
 use Rattle.page.specs.PlaceLaws.{records_from, component_from}

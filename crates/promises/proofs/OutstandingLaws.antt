@@ -10,11 +10,8 @@ use Rattle.collector.proofs.CallLaws.{outstanding_none}
 use Rattle.paging.specs.declared.PageOut.TheVariants as PageOut
 use Rattle.paging.specs.Paging.{written_page, out_refusal, out_answer}
 use Rattle.mapping.specs.declared.LookupOut.{LookupOut}
-use Rattle.mapping.specs.declared.LookupOut.TheVariants as LookupOut
 use Rattle.mapping.specs.declared.BackOut.{BackOut}
-use Rattle.mapping.specs.declared.BackOut.TheVariants as BackOut
 use Rattle.mapping.specs.declared.CutOut.{CutOut}
-use Rattle.mapping.specs.declared.CutOut.TheVariants as CutOut
 use Rattle.mapping.specs.Answers.{refuses, answer_number}
 use Rattle.mapping.specs.AnswerLaws.{gives_or_refuses}
 use Rattle.mapping.specs.Homes.{Home}
@@ -26,7 +23,6 @@ use Rattle.growth_rules.specs.Growing.{grow_of}
 use Rattle.growth_rules.specs.CallFacts.{Leaves}
 use Rattle.growth_rules.proofs.CallLaws.{refusal_leaves}
 use Rattle.growth.specs.declared.GrowOut.{GrowOut}
-use Rattle.growth.specs.declared.GrowOut.TheVariants as GrowOut
 use Rattle.growth.specs.Answers.{grow_says}
 
 -- An answer that says a refusal by 1 is the case of a refusal with that number.

@@ -28,11 +28,8 @@ use Rattle.round_trip.specs.WriteThenRead as writing
 use Rattle.round_trip.specs.ReadThenWrite as reading
 use Rattle.mapping.specs.declared.ObjectHome.{ObjectHome}
 use Rattle.mapping.specs.declared.LookupOut.{LookupOut}
-use Rattle.mapping.specs.declared.LookupOut.TheVariants as LookupOut
 use Rattle.mapping.specs.declared.BackOut.{BackOut}
-use Rattle.mapping.specs.declared.BackOut.TheVariants as BackOut
 use Rattle.mapping.specs.declared.CutOut.{CutOut}
-use Rattle.mapping.specs.declared.CutOut.TheVariants as CutOut
 use Rattle.mapping.specs.Homes.{Home, in_object, home_of, is_given}
 use Rattle.mapping.specs.Lookup.{home_says, lookup_says, lookup_of}
 use Rattle.mapping.specs.Back.{back_says, back_of}
@@ -45,7 +42,6 @@ use Rattle.growth_rules.specs.Moments.{moments, Demand3}
 use Rattle.growth_rules.proofs.Demand3.{demand3}
 use Rattle.growth.specs.declared.Effect.{Effect}
 use Rattle.growth.specs.declared.GrowOut.{GrowOut}
-use Rattle.growth.specs.declared.GrowOut.TheVariants as GrowOut
 use Rattle.growth.specs.Answers.{grow_says}
 use Rattle.worked_table.specs.Asking.{replies}
 use Rattle.worked_table.specs.Examples.{questions, answers, table_a_to_m}

@@ -1,2 +1,2 @@
-// No code: the promises of the library. `specs/Promises.antt` is to be read first.
+// No code: the promises of the library. `proofs/Promises.antt` is to be read first.
 #![tactic(auto)]

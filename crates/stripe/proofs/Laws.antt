@@ -1,5 +1,5 @@
 -- The laws of round-robin striping, each once over any stripe size z and stripe count s.
-use Rattle.std.specs.Prelude.{ℕ, ◌+◌, ◌-◌, ◌*◌, ◌/◌, ◌%◌, ◌≤◌, ◌<◌, ◌≡◌}
+use Rattle.std.specs.Prelude.{ℕ, ◌+◌, ◌*◌, ◌/◌, ◌%◌, ◌≤◌, ◌<◌, ◌≡◌}
 use Rattle.std.proofs.Common.{◌∙◌, add-mul, mul-le-mul_right, div-add-mod', div-le_self, mod-lt, mod-eq_of_lt, arith}
 use Rattle.std.proofs.Math.Nat.{div-eq_of_lt, mul-add-div_right, mul-add-mod_self_right}
 use Rattle.stripe.specs.Stripe.{unit_of, stripe_of, object_byte, file_byte}

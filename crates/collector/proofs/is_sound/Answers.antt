@@ -3,7 +3,7 @@ use mathlib.Core.Path.{◌≡◌, sym, ◌∙◌}
 use native.Mathlib.Omega.{arith}
 use lib.ListN.{length}
 use lib.Seq.{length-take-le}
-use borrow.Author.Tests.{eq-eqb, le-leb, lt-leb, not-false}
+use borrow.Author.Tests.{eq-eqb, le-leb, lt-leb}
 use Rattle.collector.specs.Collector.{gathered, collector_ok}
 use Rattle.collector.proofs.is_sound.Goals as goal
 

@@ -1,7 +1,6 @@
 -- `collector::layout_of` meets its contract: code and definition ask the same test.
 use mathlib.Core.Path.{◌≡◌, sym, ap, ◌∙◌}
 use mathlib.Core.Bool.{Bool, ◌&&◌}
-use borrow.Author.Tests.{not-true, not-false}
 use Rattle.lists.specs.Bools.{both_true}
 use Rattle.layout.specs.declared.Layout.{Layout}
 use Rattle.collector.specs.Collector.{collector_ok}

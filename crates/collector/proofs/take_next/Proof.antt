@@ -2,7 +2,6 @@
 use Prim.Native.Nat.{ℕ}
 use mathlib.Core.Path.{◌≡◌, sym, ap, ◌∙◌}
 use mathlib.Core.Bool.{true}
-use borrow.Author.Tests.{not-true, not-false}
 use Rattle.page.specs.Form.{page_form}
 use Rattle.page.specs.Content.{head_of, components_of}
 use Rattle.collector.specs.Taking.{settled}

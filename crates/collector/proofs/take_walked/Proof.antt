@@ -5,8 +5,7 @@ use mathlib.Core.List.{◌++◌}
 use mathlib.Core.Bool.{Bool, true, false, not}
 use native.Mathlib.Omega.{arith}
 use lib.ListN.{length}
-use borrow.Author.Tests.{not-true, not-false}
-use Rattle.lists.specs.Slices.{unmapped}
+use borrow.Author.Tests.{not-false}
 use Rattle.layout.specs.Records.{view}
 use Rattle.layout.specs.Rules.{rule_broken}
 use Rattle.layout.specs.Known.{RulesKnown}

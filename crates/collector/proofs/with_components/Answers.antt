@@ -1,5 +1,5 @@
 -- `collector::with_components` meets its contract: what all stores give is what the stores from i on give to the array as it is.
-use Prim.Native.Nat.{◌+◌, ◌-◌}
+use Prim.Native.Nat.{◌+◌}
 use mathlib.Core.Path.{◌≡◌, sym, ◌∙◌}
 use mathlib.Core.List.{map}
 use mathlib.Core.Bool.{not}

@@ -1,5 +1,4 @@
 -- `layout::holder` meets its contract: in a valid layout the component that holds a byte is the first that ends above it.
-use Prim.Native.Nat.{◌-◌}
 use mathlib.Core.Path.{◌≡◌, sym, ◌∙◌}
 use mathlib.Core.Bool.{false}
 use native.Mathlib.Omega.{arith}

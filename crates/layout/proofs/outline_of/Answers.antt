@@ -1,5 +1,4 @@
 -- `layout::outline_of` meets its contract: what all stores give is what the stores from i on give to the arrays as they are.
-use Prim.Native.Nat.{◌-◌}
 use mathlib.Core.Path.{◌≡◌, refl, sym, ◌∙◌}
 use native.Mathlib.Omega.{arith}
 use native.Mathlib.Numerals.{add-one}

@@ -1,5 +1,4 @@
 -- `layout::pack` meets its contract: what all stores give is what the stores from i on give to the places as they are.
-use Prim.Native.Nat.{◌-◌}
 use mathlib.Core.Path.{◌≡◌, refl, sym, ◌∙◌}
 use mathlib.Core.Bool.{true}
 use native.Mathlib.Omega.{arith}

@@ -1,6 +1,5 @@
 -- `listing::put_first` meets its contract: all stores give what those from byte i of the text on give to the buffer as
 -- it is; where the buffer ends they give nothing more.
-use Prim.Native.Nat.{◌-◌}
 use mathlib.Core.Path.{refl, sym, ◌∙◌}
 use native.Mathlib.Omega.{arith}
 use native.Mathlib.Numerals.{add-one}

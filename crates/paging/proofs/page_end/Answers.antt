@@ -1,5 +1,4 @@
 -- `paging::page_end` meets its contract: into the page goes what went in up to i, and what fits the room left from i on.
-use Prim.Native.Nat.{◌-◌}
 use mathlib.Core.Path.{refl, sym, ◌∙◌}
 use native.Mathlib.Omega.{arith}
 use native.Mathlib.Nat.{add-zero}

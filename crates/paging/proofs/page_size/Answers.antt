@@ -1,5 +1,5 @@
 -- `paging::page_size` meets its contract: the sum of all is what was added up to i and the sum of the sizes from i on.
-use Prim.Native.Nat.{◌+◌, ◌-◌}
+use Prim.Native.Nat.{◌+◌}
 use mathlib.Core.Path.{◌≡◌, refl, sym, ◌∙◌}
 use native.Mathlib.Omega.{arith}
 use native.Mathlib.Nat.{add-zero}

@@ -1,5 +1,5 @@
 -- `paging::page_start` meets its contract: `from` components are before page `page`; if none is left, before later ones too.
-use Prim.Native.Nat.{ℕ, ◌-◌}
+use Prim.Native.Nat.{ℕ}
 use mathlib.Core.Path.{◌≡◌, refl, sym, ap, ◌∙◌}
 use native.Mathlib.Omega.{arith}
 use native.Mathlib.Numerals.{add-one}

@@ -5,7 +5,7 @@ use mathlib.Core.List.{◌∷◌}
 use native.Mathlib.Omega.{arith}
 use lib.ListN.{length, get_or, length-append}
 use lib.Seq.{sets, slice}
-use Rattle.lists.specs.Slices.{unmapped, slice_next, slice_done, sets_append}
+use Rattle.lists.specs.Slices.{slice_next, slice_done, sets_append}
 use Rattle.layout.proofs.Unread.{unread}
 use Rattle.page.specs.Bytes.{size_of, component_bytes, components_bytes}
 use Rattle.page.specs.BytesLaws.{length_component}

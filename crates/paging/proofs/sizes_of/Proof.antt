@@ -5,7 +5,7 @@ use native.Mathlib.Omega.{arith}
 use native.Mathlib.Numerals.{add-one}
 use lib.ListN.{length}
 use lib.Seq.{sets, slice}
-use Rattle.lists.specs.Slices.{unmapped, slice_next, slice_done}
+use Rattle.lists.specs.Slices.{slice_next, slice_done}
 use Rattle.layout.specs.Records.{view}
 use Rattle.layout.proofs.Unread.{unread}
 use Rattle.paging.specs.Paging.{sizes_of}

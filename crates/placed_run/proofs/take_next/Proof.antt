@@ -2,7 +2,6 @@
 use mathlib.Core.Path.{◌≡◌, sym, ◌∙◌}
 use mathlib.Core.Bool.{true}
 use native.Mathlib.Omega.{arith}
-use borrow.Author.Tests.{not-true, not-false}
 use borrow.Author.Rules.{rules}
 use Rattle.collector.specs.Taking.{is_next}
 use Rattle.placed_run.proofs.Taking.{Walk, Page, Joins, gives_1, gives_3, has_head, ends_by}

@@ -1,5 +1,5 @@
 -- `placed_run::walk_next` meets its contract: the part that is lent are the bytes after the position.
-use Prim.Native.Nat.{◌-◌, min}
+use Prim.Native.Nat.{min}
 use mathlib.Core.Path.{◌≡◌}
 use native.Mathlib.Omega.{arith}
 use lib.ListN.{length, drop, length-drop}

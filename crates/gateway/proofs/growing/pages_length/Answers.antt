@@ -1,5 +1,5 @@
 -- `gateway::growing::pages_length` meets its contract: all bytes are those so far and those from page k on.
-use Prim.Native.Nat.{◌+◌, ◌-◌}
+use Prim.Native.Nat.{◌+◌}
 use mathlib.Core.Path.{◌≡◌, ap, ◌∙◌}
 use native.Mathlib.Omega.{arith}
 use lib.ListN.{length, length-append}

@@ -1,5 +1,5 @@
 -- `gateway::growing::put_nexts` meets its contract: after turn i the words have the next numbers of the first i records.
-use Prim.Native.Nat.{ℕ, ◌-◌}
+use Prim.Native.Nat.{ℕ}
 use mathlib.Core.Path.{◌≡◌, refl, ap, ◌∙◌}
 use native.Mathlib.Omega.{arith}
 use lib.ListN.{length, take, length-set}

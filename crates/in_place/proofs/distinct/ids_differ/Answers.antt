@@ -1,5 +1,5 @@
 -- `in_place::distinct::ids_differ` meets its contract: what all stores give is what the stores from i on give to the ids.
-use Prim.Native.Nat.{ℕ, ◌-◌}
+use Prim.Native.Nat.{ℕ}
 use mathlib.Core.Path.{◌≡◌, refl, sym, ap, ◌∙◌}
 use mathlib.Core.List.{List}
 use native.Mathlib.Omega.{arith}

@@ -1,5 +1,4 @@
 -- `in_place::distinct::record_total` meets its contract: the records counted so far and those that are left are all.
-use Prim.Native.Nat.{◌-◌}
 use mathlib.Core.Path.{◌≡◌}
 use native.Mathlib.Omega.{arith}
 use lib.ListN.{length}

@@ -6,7 +6,6 @@ use lib.IntN.{ℤ}
 use mir.Syntax.{w32}
 use mir.Facts.{to_z-of_z}
 use borrow.Author.Rules.{sfits_of}
-use borrow.Author.Tests.{not-true, not-false}
 use Rattle.bytes_le.specs.Numbers.{i32_at}
 use Rattle.layout.specs.Fields.{is_minus_one, is_target}
 use Rattle.in_place.proofs.FirstRecord.{first_blank, first_missing, first_after}

@@ -6,7 +6,6 @@ use mathlib.Core.Bool.{Bool, not, cond, ◌&&◌, ◌||◌}
 use native.Mathlib.Omega.{arith}
 use lib.ListN.{get_or, take}
 use lib.Seq.{slice}
-use borrow.Author.Tests.{not-true, not-false}
 use Rattle.layout.specs.Neighbours.{is_empty}
 use Rattle.page.specs.Content.{component_at}
 use Rattle.in_place.specs.Places.{components_at}

@@ -1,6 +1,5 @@
 -- `in_place::whole::layout_at` meets its contract: what all stores give is what the stores from i on give to the
 -- components as they are.
-use Prim.Native.Nat.{◌-◌}
 use mathlib.Core.Path.{◌≡◌, sym, ◌∙◌}
 use mathlib.Core.Bool.{true}
 use native.Mathlib.Omega.{arith}

@@ -1,6 +1,5 @@
 -- `layout::distinct::id_fault` meets its contract: outside, the position is i and that among the ids from i on; inside, the id is
 -- asked of those from j to i.
-use Prim.Native.Nat.{◌-◌}
 use mathlib.Core.Path.{refl, sym, ◌∙◌}
 use native.Mathlib.Omega.{arith}
 use lib.Dec.{eqb}

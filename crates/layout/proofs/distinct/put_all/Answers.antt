@@ -1,5 +1,5 @@
 -- `layout::distinct::put_all` meets its contract: what all stores give is what the stores of the components from i on give to the rows as they are.
-use Prim.Native.Nat.{◌+◌, ◌-◌}
+use Prim.Native.Nat.{◌+◌}
 use mathlib.Core.Path.{◌≡◌, sym, ◌∙◌}
 use native.Mathlib.Omega.{arith}
 use lib.ListN.{length, get_or, length-append}

@@ -1,5 +1,5 @@
 -- `layout::distinct::put_keys` meets its contract: all stores give what those of the records from i on give to the row.
-use Prim.Native.Nat.{suc, ◌-◌, ◌<◌}
+use Prim.Native.Nat.{suc, ◌<◌}
 use mathlib.Core.Path.{refl, sym, ◌∙◌}
 use native.Mathlib.Omega.{arith}
 use native.Mathlib.Numerals.{add-one}

@@ -1,6 +1,6 @@
 -- `layout::distinct::repeat_by_keys` meets its contract: outside, the position is `later` and that among the records from there
 -- on; inside, the record is asked of those from `earlier` to `later`, or of none if its key equals none of theirs.
-use Prim.Native.Nat.{ℕ, suc, ◌+◌, ◌<◌, ◌-◌}
+use Prim.Native.Nat.{ℕ, suc, ◌+◌, ◌<◌}
 use mathlib.Core.Path.{◌≡◌, sym, ◌∙◌}
 use mathlib.Core.List.{List}
 use mathlib.Core.Bool.{true, false}

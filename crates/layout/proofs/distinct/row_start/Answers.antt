@@ -1,5 +1,5 @@
 -- `layout::distinct::row_start` meets its contract: what is asked of all before is what was found and what is left to ask.
-use Prim.Native.Nat.{◌+◌, ◌-◌}
+use Prim.Native.Nat.{◌+◌}
 use mathlib.Core.Path.{refl, sym, ◌∙◌}
 use mathlib.Core.Bool.{or_assoc}
 use native.Mathlib.Omega.{arith}

@@ -1,5 +1,4 @@
 -- `layout::fields::field_fault` meets its contract: the position is i and the position among the tests from i on.
-use Prim.Native.Nat.{◌-◌}
 use mathlib.Core.Path.{◌≡◌, sym, ◌∙◌}
 use native.Mathlib.Omega.{arith}
 use lib.ListN.{length}

@@ -1,5 +1,4 @@
 -- `layout::fields::targets_ok` meets its contract: the tests from i on give what all give.
-use Prim.Native.Nat.{◌-◌}
 use mathlib.Core.Path.{refl, sym, ◌∙◌}
 use native.Mathlib.Omega.{arith}
 use lib.ListN.{get_or}

@@ -1,5 +1,4 @@
 -- `layout::neighbours::begin_fault` meets its contract: the position is i and the position among the tests from i on, where the one before ends at `at`.
-use Prim.Native.Nat.{◌-◌}
 use mathlib.Core.Path.{sym, ◌∙◌}
 use native.Mathlib.Omega.{arith}
 use borrow.Author.Tests.{eq-eqb, ne_eqb}

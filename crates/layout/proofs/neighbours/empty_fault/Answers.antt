@@ -1,6 +1,6 @@
 -- `layout::neighbours::empty_fault` meets its contract: the position is i and the position among the tests from i on; the last
 -- component has no follower.
-use Prim.Native.Nat.{◌+◌, ◌-◌}
+use Prim.Native.Nat.{◌+◌}
 use mathlib.Core.Path.{sym, ◌∙◌}
 use native.Mathlib.Omega.{arith}
 use Rattle.lists.specs.Slices.{slice_next}

@@ -1,5 +1,4 @@
 -- `layout::neighbours::follow_fault` meets its contract: the position is i and the position among the tests from i on, if `may` says what is before.
-use Prim.Native.Nat.{◌-◌}
 use mathlib.Core.Path.{sym, ◌∙◌}
 use mathlib.Core.Bool.{false}
 use native.Mathlib.Omega.{arith}

@@ -1,6 +1,6 @@
 -- `listing::lines::put_components` meets its contract: what all lines give is what those from component i on
 -- give to the buffer as it is.
-use Prim.Native.Nat.{◌+◌, ◌-◌}
+use Prim.Native.Nat.{◌+◌}
 use mathlib.Core.Path.{◌≡◌, refl, sym, ◌∙◌}
 use native.Mathlib.Omega.{arith}
 use lib.ListN.{length, get_or}

@@ -1,6 +1,6 @@
 -- `listing::words::put_text` meets its contract: all stores give what those from byte i of the text on give to the
 -- buffer as it is.
-use Prim.Native.Nat.{◌+◌, ◌-◌}
+use Prim.Native.Nat.{◌+◌}
 use mathlib.Core.Path.{refl, sym, ◌∙◌}
 use native.Mathlib.Omega.{arith}
 use native.Mathlib.Nat.{add-zero}

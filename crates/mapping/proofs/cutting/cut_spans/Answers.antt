@@ -1,8 +1,4 @@
 -- `mapping::cutting::cut_spans` meets its contract: if nothing refuses the request, its pieces have room.
-use Rattle.mapping.proofs.cutting.cut_spans.Reads as reads
-use Rattle.mapping.proofs.cutting.cut_spans.Lts as lts
-use Rattle.mapping.proofs.cutting.put_pieces.Reads as put-pieces-reads
-use Rattle.mapping.proofs.cutting.refusal_by.Reads as refusal-by-reads
 use Prim.Native.Nat.{◌+◌, ◌/◌}
 use mathlib.Core.Path.{◌≡◌, sym, ap, ◌∙◌}
 use native.Mathlib.Omega.{arith}

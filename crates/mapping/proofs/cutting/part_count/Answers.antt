@@ -1,10 +1,5 @@
 -- `mapping::cutting::part_count` meets its contract: an init component has a piece for each of its units in the
 -- request.
-use Rattle.mapping.proofs.cutting.part_count.Reads as reads
-use Rattle.mapping.proofs.cutting.part_count.Lts as lts
-use Rattle.mapping.proofs.cutting.higher_of.Reads as higher-of-reads
-use Rattle.mapping.proofs.cutting.lower_of.Reads as lower-of-reads
-use Rattle.mapping.proofs.units.unit_count.Reads as unit-count-reads
 use mathlib.Core.Path.{◌≡◌, refl, sym, ◌∙◌}
 use mathlib.Core.Bool.{true, false}
 use native.Mathlib.Omega.{arith}

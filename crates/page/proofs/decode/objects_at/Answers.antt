@@ -1,5 +1,4 @@
 -- `page::decode::objects_at` meets its contract: all stores give what those that are left give to the array.
-use Prim.Native.Nat.{◌-◌}
 use mathlib.Core.Path.{sym, ◌∙◌}
 use native.Mathlib.Omega.{arith}
 use native.Mathlib.Nat.{add-zero, sub-zero}

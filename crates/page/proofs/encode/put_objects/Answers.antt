@@ -1,5 +1,5 @@
 -- `page::encode::put_objects` meets its contract: all stores give what those from object i on give to the buffer as it is.
-use Prim.Native.Nat.{◌+◌, ◌<◌, ◌-◌}
+use Prim.Native.Nat.{◌+◌, ◌<◌}
 use mathlib.Core.Path.{refl, sym, ◌∙◌}
 use native.Mathlib.Omega.{arith}
 use native.Mathlib.Nat.{add-zero}

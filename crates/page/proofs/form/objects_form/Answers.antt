@@ -1,5 +1,4 @@
 -- `page::form::objects_form` meets its contract: all records have their form exactly if those that are left have it.
-use Prim.Native.Nat.{◌-◌}
 use mathlib.Core.Path.{sym, ◌∙◌}
 use native.Mathlib.Omega.{arith}
 use native.Mathlib.Nat.{add-zero, sub-zero}

@@ -1,12 +1,11 @@
 -- `page::form::walk` meets its contract: the form, the end and the places are those of the components that are left.
 use Prim.Native.Nat.{◌+◌, ◌*◌, ◌-◌, ◌≤◌, ◌<◌}
-use mathlib.Core.Path.{◌≡◌, refl, sym, ap, ◌∙◌}
+use mathlib.Core.Path.{◌≡◌, refl, sym, ◌∙◌}
 use mathlib.Core.Bool.{true, false}
 use native.Mathlib.Omega.{arith}
 use native.Mathlib.Nat.{sub-zero, add-zero}
 use lib.ListN.{length, take, length-set}
 use lib.Seq.{sets, take-set-le}
-use borrow.Author.Tests.{not-true, not-false}
 use Rattle.page.specs.Form.{objects_form, component_marks, records_at, component_end, component_form, components_form, places_from}
 use Rattle.page.specs.Form.{end_from, page_places, page_end, form_by}
 use Rattle.page.specs.FormLaws.{component_of}

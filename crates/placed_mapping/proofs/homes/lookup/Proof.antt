@@ -6,7 +6,6 @@ use mathlib.Core.Option.{some}
 use native.Mathlib.Omega.{arith}
 use lib.ListN.{length, get_or}
 use borrow.Author.Rules.{rules}
-use borrow.Author.Tests.{not-true, not-false}
 use Rattle.bytes_le.specs.Flags.{is_set}
 use Rattle.page.specs.Form.{component_end}
 use Rattle.page.specs.Content.{component_at}

@@ -1,5 +1,5 @@
 -- `lending::grow` meets its contract: the first records are those that the call left, and the others stay.
-use Rattle.std.proofs.Common.{◌≡◌, ◌+◌, List, ◌++◌, length, take, drop, sym, ap, ◌∙◌, arith, length-take}
+use Rattle.std.proofs.Common.{◌≡◌, ◌+◌, List, ◌++◌, length, drop, sym, ap, ◌∙◌, arith, length-take}
 use Rattle.std.proofs.lemmas.List.Edits.{sets, sets-eq}
 use Rattle.free_table.specs.declared.TargetRecord.{TargetRecord}
 use Rattle.public_calls.proofs.lending.grow.Goals as goal

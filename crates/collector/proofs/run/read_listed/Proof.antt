@@ -1,5 +1,5 @@
 -- `collector::run::read_listed` meets its contract: the whole reading is the reading from the collector on, of the bytes after `at`.
-use Prim.Native.Nat.{ℕ, ◌+◌, ◌≤◌, ◌-◌}
+use Prim.Native.Nat.{ℕ, ◌+◌, ◌≤◌, ◌<◌, ◌-◌}
 use mathlib.Core.Path.{◌≡◌, sym, ap, subst, ◌∙◌}
 use mathlib.Core.List.{List}
 use mathlib.Core.Bool.{false}
@@ -84,13 +84,14 @@ read_length u =
     let l = turn (lengthened u) in
     u.u16_at-length.ensures ∙ sym (length_at (whole l) l.loop-c.at)
 
-returns-3 : tie.Need-returns-then-length-gt512 invariant-loop decreases-loop
-returns-3 c =
-    let u = c in
-    let w = lengthened u.before.before in
+-- A length above 512 is that of no page.
+too_long : (u : tie.After-u16_at-length invariant-loop decreases-loop) → 512 < u.u16_at-length.result
+    → refused_at 3 (turn (lengthened u)).loop-c.c.pages ≡ read_run listed_cut (whole (turn (lengthened u)))
+too_long u h =
+    let w = lengthened u in
     let n = left (turn w) in
-    let k = read_length u.before.before in
-    c.refused_at-then-length-gt512.ensures ∙ no_page w (listed_long (rest (turn w)) (omega arith) (omega arith) (omega arith))
+    let k = read_length u in
+    no_page w (listed_long (rest (turn w)) (omega arith) (omega arith) (omega arith))
 
 returns-4 : tie.Need-returns-then-s-from invariant-loop decreases-loop
 returns-4 c =
@@ -199,4 +200,5 @@ returns-7 c =
     c.finished.ensures ∙ sym (closed_none l.loop-c.c (rest l.before.before.before.before) (omega arith)) ∙ closes b.before.before
 
 pub read_listed_spec : {M : Type 1} → statement M
-read_listed_spec = tie.close (tie.spec invariant-loop decreases-loop (λ c κs. search rules) loop-holds (λ c κs. search rules) returns (λ c. search rules) (λ c κs. search rules) returns-2 (λ c κs. search rules) (λ c. search rules) (λ c κs. search rules) returns-3 (λ c. search rules) (λ c. search rules) (λ c κs. search rules) returns-4 (λ c. search rules) (λ c. search rules) (λ c. search rules) (λ c. search rules) take-next-requires (λ c κs. search rules) (λ c κs. search rules) returns-5 (λ c. search rules) loop-again (λ c κs. search rules) returns-6 finished-requires returns-7)
+read_listed_spec = tie.close (tie.spec invariant-loop decreases-loop (λ c κs. search rules) loop-holds (λ c κs. search rules) returns (λ c. search rules) (λ c κs. search rules) returns-2 (λ c κs. search rules) (λ c. search rules) (λ c κs. search rules)
+    (λ c. let e = too_long c.before.before (omega arith) in cc) (λ c. search rules) (λ c. search rules) (λ c κs. search rules) returns-4 (λ c. search rules) (λ c. search rules) (λ c. search rules) (λ c. search rules) take-next-requires (λ c κs. search rules) (λ c κs. search rules) returns-5 (λ c. search rules) loop-again (λ c κs. search rules) returns-6 finished-requires returns-7)

@@ -21,13 +21,9 @@ called c = c.before.before.before.before.before
 abbrev called-layout : tie.After-layout_at-l → tie.Start
 called-layout c = called c.before.before.before.before
 
--- where growth has made its step,
+-- and where growth has made its step.
 abbrev called-step : tie.After-step-g → tie.Start
 called-step c = called-layout c.before
-
--- and where growth has not refused the call.
-abbrev called-accepted : tie.Else-number-ne0 → tie.Start
-called-accepted c = called-step c.before.before
 
 returns : tie.Need-returns-then-read-ne0
 unfolding grow_number table_after grown_after answer_after
@@ -64,17 +60,10 @@ numbered : (c : tie.After-number_of-number) → let a = (called-step c.before).a
     later_number (host_grown a.pages.now a.offset a.low_mark a.table.now).answer 0 ≡ c.number_of-number.result
 numbered c = ap (λ (x : Answer Effect). later_number x 0) (sym (said c.before).answer) ∙ sym c.number_of-number.ensures
 
-returns-2 : tie.Need-returns-then-number-ne0
-returns-2 c =
-    let n = c in
-    let a = (called-step n.before.before).args in
-    growth_refused a.pages.now a.offset a.low_mark a.table.now a.grown.now a.answer.now
-    (read n.before.before.before.before.before) n.number_of-number.result (numbered n.before) (omega (arith, c.if-number-ne0.true))
-
--- The call is accepted.
-accepted : (c : tie.Else-number-ne0) → let a = (called-accepted c).args in
+-- If it is 0, the call is accepted.
+accepted : (c : tie.After-number_of-number) → c.number_of-number.result ≡ 0 → let a = (called-step c.before).args in
     later_number (host_grown a.pages.now a.offset a.low_mark a.table.now).answer 0 ≡ 0
-accepted c = numbered c.before ∙ omega (arith, c.if-number-ne0.false)
+accepted c z = numbered c ∙ z
 
 give-requires : tie.Need-give-requires
 give-requires c κs =
@@ -83,7 +72,7 @@ give-requires c κs =
     let e = g in
     let a = (called-step g.before.before.before.before.before.before.before.before).args in
     let s = a.pages.now in
-    let yes = growth_accepted s a.offset a.low_mark a.table.now a.grown.now a.answer.now (read e.before.before.before.before.before.before.before.before.before.before.before) (accepted two.before.before.before.before.before.before) in
+    let yes = growth_accepted s a.offset a.low_mark a.table.now a.grown.now a.answer.now (read e.before.before.before.before.before.before.before.before.before.before.before) (accepted two.before.before.before.before.before.before.before (omega arith)) in
     let t = (said g.before.before.before.before.before.before.before.before).table yes.0 yes.1 in
     let v = found_valid e.read-read.ensures (omega (arith, e.if-read-ne0.false)) in
     (rw (said g.before.before.before.before.before.before.before.before).layout (grow_valid (host_layout s) _ v), t.1, t.2)
@@ -97,10 +86,12 @@ returns-3 c =
     let e = g in
     let a = (called-step g.before.before.before.before.before.before.before.before.before.before.before.before.before).args in
     let s = a.pages.now in
-    let yes = growth_accepted s a.offset a.low_mark a.table.now a.grown.now a.answer.now (read e.before.before.before.before.before.before.before.before.before.before.before.before.before.before.before.before) (accepted two.before.before.before.before.before.before.before.before.before.before.before) in
+    let yes = growth_accepted s a.offset a.low_mark a.table.now a.grown.now a.answer.now (read e.before.before.before.before.before.before.before.before.before.before.before.before.before.before.before.before) (accepted two.before.before.before.before.before.before.before.before.before.before.before.before (omega arith)) in
     results_given s a.offset a.low_mark a.table.now a.grown.now a.answer.now (read e.before.before.before.before.before.before.before.before.before.before.before.before.before.before.before.before)
-    g.step-g.result.layout g.step-g.result.table home.home_of-home.result (accepted two.before.before.before.before.before.before.before.before.before.before.before) (said g.before.before.before.before.before.before.before.before.before.before.before.before.before).layout
+    g.step-g.result.layout g.step-g.result.table home.home_of-home.result (accepted two.before.before.before.before.before.before.before.before.before.before.before.before (omega arith)) (said g.before.before.before.before.before.before.before.before.before.before.before.before.before).layout
     ((said g.before.before.before.before.before.before.before.before.before.before.before.before.before).table yes.0 yes.1).0 (home.home_of-home.ensures ∙ ap home_number (said g.before.before.before.before.before.before.before.before.before.before.before.before.before).answer) _ _ _ _ given.give.ensures
 
 pub moorsickle_grow_spec : {M : Type 1} → statement M
-moorsickle_grow_spec = tie.close (tie.spec (λ c κs. search rules) (λ c. search rules) returns layout-at-requires step-requires (λ c κs. search rules) (λ c. search rules) (λ c. search rules) returns-2 (λ c κs. search rules) give-requires (λ c. search rules) (λ c. search rules) returns-3)
+moorsickle_grow_spec = tie.close (tie.spec (λ c κs. search rules) (λ c. search rules) returns layout-at-requires step-requires (λ c κs. search rules) (λ c. search rules) (λ c. search rules)
+    (λ c. let a = (called-step c.before.before).args in growth_refused a.pages.now a.offset a.low_mark a.table.now a.grown.now a.answer.now (read c.before.before.before.before.before) c.number_of-number.result (numbered c.before) (omega arith))
+    (λ c κs. search rules) give-requires (λ c. search rules) (λ c. search rules) returns-3)

@@ -21,7 +21,7 @@ returns-then-buffer-bytes c =
 pub put_pages-requires : goal.put_pages-requires
 put_pages-requires c =
     let n = c in
-    (n.requires.0, omega (arith, n.pages_length-bytes.ensures, c.if-buffer-bytes.false))
+    (n.requires.0, omega (arith, n.pages_length-bytes.ensures))
 
 pub returns : goal.returns
 unfolding lent_after
@@ -32,5 +32,5 @@ returns c =
     let a = size.args in
     let n = length (pages_of a.l) in
     let e : leb n (length a.buffer.now) ≡ true =
-    le-leb n (length a.buffer.now) (omega (arith, size.pages_length-bytes.ensures, pages.if-buffer-bytes.false)) in
+    le-leb n (length a.buffer.now) (omega (arith, size.pages_length-bytes.ensures)) in
     (rw e, rw e nexts.put_nexts.ensures, rw e pages.put_pages.ensures, rw (e, size.pages_length-bytes.ensures))

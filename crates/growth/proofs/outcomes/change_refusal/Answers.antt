@@ -31,7 +31,7 @@ returns-then-planned_count-gt16 c =
     let a = c.args in
     let n = c.planned_count in
     let k = counted a.l a.p n.result c.well_formed.0.1.1.1.1.0.1.0.1 c.requires.0 c.requires.1 n.ensures in
-    rw (lt-ltb 16 (length (planned a.p (view a.l))) (omega (arith, k, c.if-planned_count-gt16.true)))
+    rw (lt-ltb 16 (length (planned a.p (view a.l))) (omega (arith, k)))
 
 pub returns-then-meets_layout : goal.returns-then-meets_layout
 unfolding change_refusal
@@ -40,7 +40,7 @@ returns-then-meets_layout c =
     let n = c.planned_count in
     let k = counted a.l a.p n.result c.well_formed.0.1.1.1.1.0.1.0.1 c.requires.0 c.requires.1 n.ensures in
     rw (
-      le-ltb 16 (length (planned a.p (view a.l))) (omega (arith, k, c.if-planned_count-gt16.false)),
+      le-ltb 16 (length (planned a.p (view a.l))) (omega (arith, k)),
       sym c.meets_layout.ensures ∙ c.if-meets_layout.true,
     )
 
@@ -49,7 +49,7 @@ returns-then-l-eq4294967295 c =
     let a = c.args in
     let n = c.planned_count in
     let k = counted a.l a.p n.result c.well_formed.0.1.1.1.1.0.1.0.1 c.requires.0 c.requires.1 n.ensures in
-    last a.l a.p true (le-ltb 16 (length (planned a.p (view a.l))) (omega (arith, k, c.if-planned_count-gt16.false)))
+    last a.l a.p true (le-ltb 16 (length (planned a.p (view a.l))) (omega (arith, k)))
     (sym c.meets_layout.ensures ∙ c.if-meets_layout.false) (sym (eq-eqb _ 4294967295 c.if-l-eq4294967295.true))
 
 pub returns : goal.returns
@@ -57,5 +57,5 @@ returns c =
     let a = c.args in
     let n = c.planned_count in
     let k = counted a.l a.p n.result c.well_formed.0.1.1.1.1.0.1.0.1 c.requires.0 c.requires.1 n.ensures in
-    last a.l a.p false (le-ltb 16 (length (planned a.p (view a.l))) (omega (arith, k, c.if-planned_count-gt16.false)))
+    last a.l a.p false (le-ltb 16 (length (planned a.p (view a.l))) (omega (arith, k)))
     (sym c.meets_layout.ensures ∙ c.if-meets_layout.false) (sym (ne_eqb _ 4294967295 c.if-l-eq4294967295.false))

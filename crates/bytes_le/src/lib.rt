@@ -3,7 +3,8 @@
 
 ghost use Rattle.std.specs.Prelude.{◌≡◌, ◌+◌, ◌≤◌, ◌<◌, length};
 ghost use Rattle.std.proofs.lemmas.List.Edits.{sets};
-ghost use Rattle.bytes_le.specs.Numbers.{u16_at, u32_at, u64_at, i32_of, i32_at, bits_of, u16_bytes, u32_bytes, u64_bytes};
+ghost use Rattle.bytes_le.specs.Numbers.{u16_at, u32_at, u64_at, i32_of, i32_at, bits_of};
+ghost use Rattle.bytes_le.specs.Numbers.{u16_bytes, u32_bytes, u64_bytes};
 
 pub mod flags;
 

@@ -66,6 +66,8 @@ pub fn take_page(c: &mut Collector, page: &[u8]) -> Answer
 // The layout out of a complete collector, which is only read and stays as it was. It gives refusal 0 and the layout:
 // the gathered components, and the generation of their pages; or this refusal and a blank layout:
 //  1 the collector breaks the rules of a collector, its components break the component rules, or it is not complete.
+// That it stays as it was is in the type: what a `&` lends has one value in a contract, so the second equation holds of
+// any function.
 pub fn layout_of(c: &Collector) -> LayoutOut
     ensures { (result ≡ layout_out c.now) × (c.now ≡ c.now) }
 {

@@ -57,7 +57,7 @@ use Rattle.promises.specs.Calls.{cut_numbers, cut_room, growth_numbers}
 use Rattle.promises.proofs.NumberLaws as numbers
 use Rattle.promises.proofs.NumberLaws.{refused_if, refused_unless, refused_unless_both, refused_above}
 use Rattle.promises.proofs.NumberLaws.{answer_under}
-use Rattle.promises.proofs.LookupLaws.{lookup_gives}
+use Rattle.promises.specs.LookupLaws.{lookup_gives}
 
 -- An answer that refuses is the refusal by its number.
 refused_by_lem : {A : Type 0} (x : Answer A) (n : ℕ) → 0 < n → n ≡ answer_number x → refuses n ≡ x

@@ -1,9 +1,5 @@
 pub mod NumberLaws
 pub mod CallLaws
-pub mod LookupLaws
-pub mod GrowthLaws
-pub mod OutstandingLaws
-pub mod HostCallLaws
 pub mod PromisesOfNumbers
 pub mod PromisesOfPageIn
 pub mod PromisesOfPageOut

@@ -50,7 +50,7 @@ use Rattle.promises.specs.Calls.{page_in_numbers, page_out_numbers, lookup_numbe
 use Rattle.promises.specs.Calls.{growth_numbers}
 use Rattle.promises.proofs.NumberLaws as numbers
 use Rattle.promises.proofs.CallLaws as calls
-use Rattle.promises.proofs.OutstandingLaws as outstanding
+use Rattle.promises.specs.OutstandingLaws as outstanding
 
 -- "Among its call's numbers each is given exactly if its condition holds and no lower one's does": that of none before
 -- it in the order of the call's list in `Calls`, which in document 01 is the order of size.

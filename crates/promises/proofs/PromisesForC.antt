@@ -27,7 +27,7 @@ use Rattle.gateway.specs.Host.{cut_number, pieces_after, count_after, page_numbe
 use Rattle.gateway.proofs.HostLaws as host
 use Rattle.gateway.specs.HostGrowth.{word_table, with_next_words, host_grown, pages_of}
 use Rattle.gateway.specs.HostGrowth.{grow_number, table_after, grown_after, answer_after}
-use Rattle.promises.proofs.HostCallLaws as calls
+use Rattle.promises.specs.HostCallLaws as calls
 
 -- A layout that was read is valid, so 1 is never the call's own number.
 pub read_valid : (pages : List ℕ) → (host_reading pages).refusal ≡ 0 → valid (host_layout pages) ≡ true

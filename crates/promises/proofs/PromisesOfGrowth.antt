@@ -25,7 +25,7 @@ use Rattle.growth_rules.proofs.MomentLaws.{reading_kept, byte_piece_kept}
 use Rattle.promises.specs.Numbers.{IsFirst}
 use Rattle.promises.specs.Calls.{growth_numbers}
 use Rattle.promises.proofs.CallLaws as calls
-use Rattle.promises.proofs.GrowthLaws as growing
+use Rattle.promises.specs.GrowthLaws as growing
 
 -- "Growth: 1, 10, 15 to 19."
 pub growth_number : (l : Layout) (k : Call) → IsFirst (answer_number (grow_of l k).answer) (growth_numbers l k)

@@ -17,7 +17,7 @@ use Rattle.mapping.proofs.BackLaws.{looked_up_back, back_looked_up}
 use Rattle.promises.specs.Numbers.{IsFirst}
 use Rattle.promises.specs.Calls.{lookup_numbers, back_numbers}
 use Rattle.promises.proofs.CallLaws as calls
-use Rattle.promises.proofs.LookupLaws as looking
+use Rattle.promises.specs.LookupLaws as looking
 
 -- "Lookup: 1, 10, 11."
 pub lookup_number_lem : (l : Layout) (b : ℕ) → IsFirst (answer_number (lookup_of b l)) (lookup_numbers l b)

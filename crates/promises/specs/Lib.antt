@@ -1,2 +1,6 @@
 pub mod Numbers
 pub mod Calls
+pub mod LookupLaws
+pub mod GrowthLaws
+pub mod OutstandingLaws
+pub mod HostCallLaws

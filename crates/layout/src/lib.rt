@@ -2,7 +2,7 @@
 #![tactic(auto)]
 
 ghost use Rattle.std.specs.Prelude.{◌≡◌, true, ◌≤◌, take};
-ghost use Rattle.layout.specs.Records.{view, outline_of, no_layout, packed};
+ghost use Rattle.layout.specs.Records.{view, records_of, outline_of, no_layout, packed};
 ghost use Rattle.layout.specs.Rules.{later_rule_broken, rule_broken, valid};
 ghost use Rattle.layout.specs.Known.{RulesKnown};
 ghost use Rattle.layout.specs.Holder.{holder_of};
@@ -11,8 +11,8 @@ pub mod distinct;
 pub mod fields;
 pub mod neighbours;
 
-// An object of the store: the target that it lies on, and its number there.
-#[derive(Clone, Copy)]
+// An object of the store: the target that it lies on, and its number there. Two objects are the same if both agree.
+#[derive(Clone, Copy, PartialEq, Eq)]
 pub struct Object {
     pub target: u32,
     pub number: u64,
@@ -34,6 +34,15 @@ pub struct Component {
     pub objects: [Object; 16],
 }
 
+impl Component {
+    // The object records of the component, in stripe order: as many as its stripe count says if it is init, at most 16.
+    pub fn objects(&self) -> &[Object]
+        ensures { result.now ≡ records_of self.now }
+    {
+        &self.objects[..fields::record_count(*self)]
+    }
+}
+
 // A component as the neighbour rules see it: its extent [begin, end) and its flags.
 #[derive(Clone, Copy)]
 pub struct Neighbour {
@@ -51,6 +60,16 @@ pub struct Layout {
     pub count: usize,
     pub components: [Component; 16],
     pub complete: bool,
+}
+
+impl Layout {
+    // The components of the layout, in the order of the file.
+    pub fn components(&self) -> &[Component]
+        requires { self.now.count ≤ 16 }
+        ensures { result.now ≡ view self.now }
+    {
+        &self.components[..self.count]
+    }
 }
 
 // What is in the unused places of an object array.

@@ -1,6 +1,6 @@
 -- A rule over a list is a list of tests, one for each element. The rule holds if every test passes; where it does not, the
 -- first test that fails tells the position of the fault.
-use Rattle.std.specs.Prelude.{ℕ, zero, suc, ◌+◌, ◌≤◌, ◌<◌, ◌≡◌, refl, List, [], ◌∷◌, ◌++◌, Bool, true, false, cond, ◌&&◌, ◌||◌, ltb, length, get_or, take, drop}
+use Rattle.std.specs.Prelude.{ℕ, zero, suc, ◌+◌, ◌≤◌, ◌<◌, ◌≡◌, refl, List, [], ◌∷◌, ◌++◌, Option, Some, None, Bool, true, false, cond, ◌&&◌, ◌||◌, ltb, length, get_or, take, drop}
 use Rattle.std.proofs.Common.{sym, ap, ◌∙◌, arith, suc-add, lt-ltb}
 use Rattle.std.proofs.lemmas.Bool.{false≢true}
 use Rattle.std.proofs.Math.Dec.{leb-suc-suc}
@@ -49,6 +49,10 @@ any_of ok (a ∷ l) = ok a || any_of ok l
 abbrev pub first_that : {A : Type 0} → (A → Bool) → List A → ℕ
 first_that ok [] = 0
 first_that ok (a ∷ l) = cond (ok a) 0 (suc (first_that ok l))
+
+-- The position i in a list of n elements, or `None` if the list ends before it.
+abbrev pub found : ℕ → ℕ → Option ℕ
+found i n = cond (ltb i n) (Some i) None
 
 -- Every test passes exactly if the first that fails is at the number of tests.
 pub none_failed : (ts : List Bool) → length ts ≤ first_failed ts → every ts ≡ true

@@ -2,10 +2,14 @@
 #![tactic(auto)]
 
 ghost use Rattle.std.specs.Prelude.{◌≡◌, true, ◌≤◌, take};
+ghost use Rattle.lists.specs.Tests.{found};
+ghost use Rattle.refusals.specs.Refusals.{number_in};
 ghost use Rattle.layout.specs.Records.{view, records_of, outline_of, no_layout, packed};
 ghost use Rattle.layout.specs.Rules.{later_rule_broken, rule_broken, valid};
 ghost use Rattle.layout.specs.Known.{RulesKnown};
 ghost use Rattle.layout.specs.Holder.{holder_of};
+
+use refusals::Refusal;
 
 pub mod distinct;
 pub mod fields;
@@ -164,75 +168,55 @@ pub fn outline_of(l: Layout) -> Outline
     }
 }
 
-// The number of the first rule that the components break among those of neighbours and distinctness, 7 or 8, or 0.
-fn later_rule_broken(l: Layout, more: bool, from: usize) -> u8
+// Do the components keep the rules of neighbours and of distinctness, asked in this order?
+fn check_later_rules(l: Layout, more: bool, from: usize) -> Result<(), Refusal>
     requires { RulesKnown from l }
-    ensures { result ≡ later_rule_broken more (view l) }
+    ensures { number_in result ≡ later_rule_broken more (view l) }
 {
     let n = l.count;
     let outline = outline_of(l);
-    let neighbours = outline.neighbours;
-    if !neighbours::neighbours_hold(neighbours, n, more, from) {
-        return 7;
+    if !neighbours::neighbours_hold(outline.neighbours, n, more, from) {
+        return Err(Refusal::Neighbours);
     }
-    let ids = outline.ids;
-    let ids_differ = distinct::id_fault(ids, n, from) == n;
+    let ids_differ = distinct::id_fault(outline.ids, n, from) == n;
     if ids_differ & distinct::objects_differ(l, from) {
-        return 0;
+        return Ok(());
     }
-    8
+    Err(Refusal::Distinctness)
 }
 
-// The number of the first component rule that the layout's components break, 6, 7 or 8, or 0. `more` says that pages
-// are outstanding. The first `from` components are known to break no rule with pages outstanding, and only the rest is
-// asked.
-pub fn rule_broken_from(l: Layout, more: bool, from: usize) -> u8
+// Do the layout's components keep the component rules? If not, the refusal is the first of fields, neighbours and
+// distinctness whose rule they break. `more` says that pages are outstanding. The first `from` components are known to
+// break no rule with pages outstanding, and only the rest is asked.
+pub fn check_rules_from(l: Layout, more: bool, from: usize) -> Result<(), Refusal>
     requires { RulesKnown from l }
-    ensures { result ≡ rule_broken more (view l) }
+    ensures { number_in result ≡ rule_broken more (view l) }
 {
     if !fields::fields_hold(l, from) {
-        return 6;
+        return Err(Refusal::Fields);
     }
-    later_rule_broken(l, more, from)
+    check_later_rules(l, more, from)
 }
 
 // The same, if nothing is known of the components.
-pub fn rule_broken(l: Layout, more: bool) -> u8
+pub fn check_rules(l: Layout, more: bool) -> Result<(), Refusal>
     requires { l.count ≤ 16 }
-    ensures { result ≡ rule_broken more (view l) }
+    ensures { number_in result ≡ rule_broken more (view l) }
 {
-    rule_broken_from(l, more, 0)
+    check_rules_from(l, more, 0)
 }
 
 // Is the layout valid: does refusal 1 not apply to it?
 pub fn is_valid(l: Layout) -> bool
     ensures { result ≡ valid l }
 {
-    if !l.complete {
-        return false;
-    }
-    if l.count < 1 {
-        return false;
-    }
-    if 16 < l.count {
-        return false;
-    }
-    rule_broken(l, false) == 0
+    l.complete && 1 <= l.count && l.count <= 16 && check_rules(l, false).is_ok()
 }
 
-// The position of the component that holds the file byte, or the count if none does.
-pub fn holder(l: Layout, offset: u64) -> usize
+// The position of the component that holds the file byte, or `None` if none does.
+pub fn holder(l: Layout, offset: u64) -> Option<usize>
     requires { valid l ≡ true }
-    ensures { (result ≡ holder_of offset (view l)) × (result ≤ l.count) }
+    ensures { result ≡ found (holder_of offset (view l)) l.count }
 {
-    let n = l.count;
-    let mut i: usize = 0;
-    while i < n {
-        let c = l.components[i];
-        if offset < c.end {
-            return i;
-        }
-        i += 1;
-    }
-    i
+    l.components().iter().position(|c| offset < c.end)
 }

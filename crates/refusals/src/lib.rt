@@ -1,8 +1,10 @@
 // The refusals of the library's calls, and their numbers.
 #![tactic(auto)]
 
-ghost use Rattle.std.specs.Prelude.{◌≡◌};
+ghost use Rattle.std.specs.Prelude.{◌≡◌, Some, decimal};
 ghost use Rattle.refusals.specs.Refusals.{number_of};
+
+use std::fmt;
 
 // Why a call refuses. The discriminants are the numbers of the table of refusals.
 #[derive(Clone, Copy, PartialEq, Eq)]
@@ -55,5 +57,14 @@ impl Refusal {
         ensures { result ≡ number_of self }
     {
         self as u8
+    }
+}
+
+// A refusal is printed as its number.
+impl fmt::Display for Refusal {
+    ghost output = { λ e. Some (decimal (number_of e)) };
+
+    fn fmt<W: fmt::Write>(&self, f: &mut fmt::Formatter<W>) -> fmt::Result {
+        write!(f, "{}", self.number())
     }
 }

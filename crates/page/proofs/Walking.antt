@@ -1,19 +1,21 @@
 -- The walk over a page: what is left of it at its start, after a component of its form, and after the last one.
 use Prim.Native.Nat.{ℕ, ◌+◌, ◌-◌, ◌≤◌, ◌<◌}
-use mathlib.Core.Path.{◌≡◌, sym, ◌∙◌}
+use mathlib.Core.Path.{◌≡◌, refl}
 use mathlib.Core.List.{List, map, map-id}
-use mathlib.Core.Bool.{true, false, ◌&&◌}
+use mathlib.Core.Bool.{Bool, true, false}
+use Rattle.std.proofs.Common.{Option, Some, None}
+use Rattle.std.specs.Option.{option_eq}
 use native.Mathlib.Omega.{arith}
 use native.Mathlib.Nat.{sub-zero, zero-add}
-use lib.Dec.{eqb, ltb}
+use lib.Dec.{eqb}
 use lib.ListN.{length, set, take}
 use lib.Seq.{sets}
-use borrow.Author.Tests.{le-leb, lt-leb, lt-ltb}
+use borrow.Author.Tests.{le-leb, lt-leb}
 use Rattle.lists.specs.Bools.{bool_cases, clash}
 use Rattle.lists.specs.Slices.{sets_next, take_sets}
 use Rattle.page.specs.Form.{objects_form, component_marks, records_at, component_end, component_form, components_form, places_from}
-use Rattle.page.specs.Form.{end_from, head_form, counted, page_places, page_end, form_by, page_form}
-use Rattle.page.specs.FormLaws.{length_places, end_past, few_components, page_by}
+use Rattle.page.specs.Form.{end_if, end_from, head_form, counted, page_places, page_end, form_by, page_form}
+use Rattle.page.specs.FormLaws.{length_places, few_components, page_by}
 use Rattle.page.specs.Walked.{Walks, Walked, walked_page}
 use Rattle.page.proofs.Turns.{turn, done}
 
@@ -51,6 +53,11 @@ module _ (limit : ℕ) (s : List ℕ) (at : ℕ) where
       unfolding component_form
       objects_wrong f = rw (le-leb (component_end s at) limit h, e, f)
 
+-- What ends has its form, and ends where it does.
+pub ended : (formed : Bool) (end at : ℕ) → Some at ≡ end_if formed end → (formed ≡ true) × (at ≡ end)
+ended true end at e = (refl, cc)
+ended false end at e = absurd (cc)
+
 -- A turn, with i of n components walked over and the next at a place.
 module _ (limit : ℕ) (s : List ℕ) (n i at : ℕ) where
   pub form_turn : i < n → component_form limit s at ≡ true
@@ -81,14 +88,14 @@ module _ (s : List ℕ) (n i at : ℕ) where
 
 -- If the page has not its form.
 pub walks_faulty : (limit : ℕ) (s : List ℕ) (base n : ℕ) (before after : List ℕ) → form_by limit s ≡ false
-    → take n after ≡ take n before → length after ≡ length before → Walks limit s base n before after 0
+    → take n after ≡ take n before → length after ≡ length before → Walks limit s base n before after None
 walks_faulty limit s base n before after e k l = (rw e, k, l, λ f. clash f e)
 
 -- If it has, and the walk ends at a place.
 pub walks_whole : (limit : ℕ) (s : List ℕ) (base n : ℕ) (before after : List ℕ) (at : ℕ) → form_by limit s ≡ true
     → page_end s ≡ at → take n after ≡ take n before → length after ≡ length before
-    → after ≡ sets before n (page_places base s) → Walks limit s base n before after at
-walks_whole limit s base n before after at e f k l g = (rw e (sym f), k, l, λ h. g)
+    → after ≡ sets before n (page_places base s) → Walks limit s base n before after (Some at)
+walks_whole limit s base n before after at e f k l g = (rw (e, f), k, l, λ h. g)
 
 -- The walk over bytes that are to be one page.
 module _ (s : List ℕ) where
@@ -96,15 +103,14 @@ module _ (s : List ℕ) where
   unfolding page_form
   page_long h = rw (lt-leb (length s) 512 h)
 
-  module _ (h : length s ≤ 512) (before after : List ℕ) (end : ℕ) (w : Walks (length s) s 0 0 before after end) where
-    -- They are one exactly if the walk ends, and at their end.
-    pub page_told : (ltb 0 end && eqb end (length s)) ≡ page_form s
+  module _ (h : length s ≤ 512) (before after : List ℕ) (end : Option ℕ) (w : Walks (length s) s 0 0 before after end) where
+    -- They are one exactly if the walk ends at their end.
+    pub page_told : option_eq eqb end (Some (length s)) ≡ page_form s
     unfolding page_form
     page_told =
         bool_cases (form_by (length s) s)
-        (λ e. let x : end ≡ page_end s = w.0 ∙ rw e in
-        rw (le-leb (length s) 512 h, e, ← x, lt-ltb 0 end (omega (arith, x, end_past (counted s) s 16))))
-        (λ e. let x : end ≡ 0 = w.0 ∙ rw e in rw (le-leb (length s) 512 h, e, x))
+        (λ e. rw (w.0, le-leb (length s) 512 h, e))
+        (λ e. rw (w.0, le-leb (length s) 512 h, e))
 
     -- And then the first places are those of its components.
     pub page_walked : length before ≡ 16 → page_form s ≡ true → Walked s after

@@ -1,6 +1,6 @@
 -- The form of a page (refusal 3), field by field as document 01's section "Pages" has it. A place is where a record
 -- begins in the bytes. Bytes past the end of a list read as 0, and no record that reaches past the limit has its form.
-use Rattle.std.specs.Prelude.{ℕ, zero, suc, ◌+◌, ◌*◌, List, [], ◌∷◌, map, Bool, true, ◌&&◌, eqb, leb, length}
+use Rattle.std.specs.Prelude.{ℕ, zero, suc, ◌+◌, ◌*◌, List, [], ◌∷◌, map, Option, Some, None, Bool, true, cond, ◌&&◌, eqb, leb, length}
 use Rattle.bytes_le.specs.Numbers.{u16_at, u32_at}
 use Rattle.bytes_le.specs.Flags.{is_set, only_first}
 use Rattle.layout.specs.Records.{count_of}
@@ -29,6 +29,10 @@ ends_at at n = at + 40 + 16 * n
 -- Where the component at a place ends, its object records with it.
 abbrev pub component_end : List ℕ → ℕ → ℕ
 component_end s at = ends_at at (records_at s at)
+
+-- Where something ends, if it has its form; else `None`.
+abbrev pub end_if : Bool → ℕ → Option ℕ
+end_if formed end = cond formed (Some end) None
 
 -- The component at a place has its form, its object records too, and ends by the limit.
 unfoldable pub component_form : ℕ → List ℕ → ℕ → Bool

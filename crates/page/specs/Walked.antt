@@ -1,17 +1,17 @@
 -- What a walk over a page gives, and what it tells those that decode the components at its places.
-use Rattle.std.specs.Prelude.{ℕ, ◌≤◌, ◌<◌, ◌≡◌, List, map, true, cond, length, get_or, take}
+use Rattle.std.specs.Prelude.{ℕ, ◌≤◌, ◌<◌, ◌≡◌, List, map, Option, true, length, get_or, take}
 use Rattle.std.proofs.lemmas.List.Edits.{sets}
 use Rattle.std.proofs.Common.{get_or-take}
-use Rattle.page.specs.Form.{counted, component_end, places_from, page_places, page_end, form_by, page_form}
+use Rattle.page.specs.Form.{counted, component_end, end_if, places_from, page_places, page_end, form_by, page_form}
 use Rattle.page.specs.Content.{component_at, components_of}
 use Rattle.page.specs.FormLaws.{place_within, form_room, form_components, some_components, few_components, page_short, page_by}
 
--- A walk over the page that bytes s begin with gives where the page ends, or 0 if it does not have its form. The first n
+-- A walk over the page that bytes s begin with gives where the page ends, or `None` if it does not have its form. The first n
 -- places stay as they were, and so does the number of positions. If the page has its form, the places of its components
 -- are stored from position n on.
-abbrev pub Walks : ℕ → List ℕ → ℕ → ℕ → List ℕ → List ℕ → ℕ → Type 0
+abbrev pub Walks : ℕ → List ℕ → ℕ → ℕ → List ℕ → List ℕ → Option ℕ → Type 0
 Walks limit s base n before after r =
-    (r ≡ cond (form_by limit s) (page_end s) 0)
+    (r ≡ end_if (form_by limit s) (page_end s))
     × (take n after ≡ take n before)
     × (length after ≡ length before)
     × (form_by limit s ≡ true → after ≡ sets before n (page_places base s))

@@ -4,7 +4,7 @@ ghost use Rattle.layout.specs.Records.{pack_objects};
 ghost use Rattle.page.specs.Form.{component_end};
 ghost use Rattle.page.specs.Content.{object_at, objects_at, component_at, head_of};
 
-use crate::Head;
+use crate::{Head, form};
 use layout::{Component, NO_OBJECT, Object};
 
 // The object record at the place.
@@ -24,19 +24,10 @@ fn objects_at(s: &[u8], at: usize, n: usize) -> [Object; 16]
     ensures { result ≡ pack_objects (objects_at n s.now at) }
 {
     let mut objects = [NO_OBJECT; 16];
-    let mut i: usize = 0;
-    while i < n {
+    for i in 0..n {
         objects[i] = object_at(s, at + 16 * i);
-        i += 1;
     }
     objects
-}
-
-// The lower of 16 and n.
-pub fn at_most_16(n: usize) -> usize
-    ensures { (result ≡ min 16 n) × (result ≤ 16) × (result ≤ n) }
-{
-    if n < 16 { n } else { 16 }
 }
 
 // The component at the place, with its object records.
@@ -44,7 +35,7 @@ pub fn component_at(s: &[u8], at: usize) -> Component
     requires { component_end s.now at ≤ length s.now }
     ensures { result ≡ component_at s.now at }
 {
-    let records = at_most_16(crate::form::record_count(s, at));
+    let records = form::record_count(s, at).min(16);
     let objects = objects_at(s, at + 40, records);
     let flags = bytes_le::u16_at(s, at + 2);
     Component {
@@ -57,7 +48,7 @@ pub fn component_at(s: &[u8], at: usize) -> Component
         begin: bytes_le::u64_at(s, at + 16),
         end: bytes_le::u64_at(s, at + 24),
         extension_size: bytes_le::u64_at(s, at + 32),
-        objects: objects,
+        objects,
     }
 }
 

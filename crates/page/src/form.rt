@@ -1,6 +1,7 @@
 // The form of a page (refusal 3).
 ghost use Rattle.std.specs.Prelude.{◌≡◌, true, ◌+◌, ◌*◌, ◌^◌, ◌≤◌, ◌<◌, length, set};
-ghost use Rattle.page.specs.Form.{object_form, objects_form, component_marks, records_at, head_form, page_form};
+ghost use Rattle.page.specs.Form.{object_form, objects_form, component_marks, component_form, component_end, end_if};
+ghost use Rattle.page.specs.Form.{records_at, head_form, page_form};
 ghost use Rattle.page.specs.Walked.{Walks, Walked};
 
 // Has the object record at the place its form?
@@ -69,10 +70,35 @@ fn note(places: &mut [usize; 16], i: usize, place: usize)
     }
 }
 
+// Where the component at the place ends, if it has its form and ends by the limit.
+fn end_of_component(s: &[u8], at: usize, limit: usize) -> Option<usize>
+    requires { (at ≤ limit) × (limit ≤ length s.now) × (limit ≤ 512) }
+    ensures { result ≡ end_if (component_form limit s.now at) (component_end s.now at) }
+{
+    if limit - at < 40 {
+        return None;
+    }
+    let records = record_count(s, at);
+    if limit - at - 40 < 16 * records {
+        return None;
+    }
+    if component_marks(s, at) && objects_form(s, at + 40, records) {
+        Some(at + 40 + 16 * records)
+    } else {
+        None
+    }
+}
+
 // Walks over the page that the bytes begin with and that is to end by the limit, up to the first fault. The places of
 // its components are stored from position n on, as far as there are positions, each with `base` added: the bytes may be
-// part of longer ones, with `base` bytes before them. Gives where the page ends, or 0 if it does not have its form.
-pub fn walk(s: &[u8], limit: usize, base: usize, n: usize, places: &mut [usize; 16]) -> usize
+// part of longer ones, with `base` bytes before them. Gives where the page ends, or `None` if it does not have its form.
+pub fn walk(
+    s: &[u8],
+    limit: usize,
+    base: usize,
+    n: usize,
+    places: &mut [usize; 16],
+) -> Option<usize>
     requires { (limit ≤ length s.now)
         × (limit ≤ 512)
         × (base + length s.now < 2 ^ 64)
@@ -80,34 +106,17 @@ pub fn walk(s: &[u8], limit: usize, base: usize, n: usize, places: &mut [usize; 
         × (length places.old ≡ 16) }
     ensures { Walks limit s.now base n places.old places.new result }
 {
-    if limit < 16 {
-        return 0;
-    }
-    if !head_form(s) {
-        return 0;
+    if limit < 16 || !head_form(s) {
+        return None;
     }
     let count = bytes_le::u16_at(s, 6) as usize;
     let mut at: usize = 16;
-    let mut i: usize = 0;
-    while i < count {
-        if limit - at < 40 {
-            return 0;
-        }
-        let records = record_count(s, at);
-        if limit - at - 40 < 16 * records {
-            return 0;
-        }
-        if !component_marks(s, at) {
-            return 0;
-        }
-        if !objects_form(s, at + 40, records) {
-            return 0;
-        }
+    for i in 0..count {
+        let end = end_of_component(s, at, limit)?;
         note(places, n + i, base + at);
-        at = at + 40 + 16 * records;
-        i += 1;
+        at = end;
     }
-    at
+    Some(at)
 }
 
 // Are the bytes one page, of 16 to 512 bytes and with nothing after its last record? If so, the places of its
@@ -117,9 +126,5 @@ pub fn walk_page(s: &[u8], places: &mut [usize; 16]) -> bool
     ensures { (result ≡ page_form s.now)
         × (page_form s.now ≡ true → Walked s.now places.new) }
 {
-    if 512 < s.len() {
-        return false;
-    }
-    let end = walk(s, s.len(), 0, 0, places);
-    (0 < end) & (end == s.len())
+    s.len() <= 512 && walk(s, s.len(), 0, 0, places) == Some(s.len())
 }

@@ -1,26 +1,22 @@
 -- `page::decode::objects_at` meets its contract: all stores give what those that are left give to the array.
 use mathlib.Core.Path.{sym, ◌∙◌}
-use native.Mathlib.Omega.{arith}
 use native.Mathlib.Nat.{add-zero, sub-zero}
 use native.Mathlib.Numerals.{add-one}
 use Rattle.layout.specs.Records.{pack_objects}
 use Rattle.page.proofs.Turns.{objects_at_turn, objects_at_done}
-use borrow.Author.Rules.{rules}
 use Rattle.page.proofs.decode.objects_at.Goals as goal
+
+pub loop-i-init : goal.loop-i-init
+loop-i-init c = rw (sub-zero, add-zero)
 
 pub loop-i-preserved : goal.loop-i-preserved
 loop-i-preserved c =
-    let p = c in
-    let a = p.args in
-    let e = objects_at_turn a.s.now a.at a.n p.loop-i.i c.loop-i-test.true in
-    (omega arith, p.loop-i.invariant.1 ∙ rw (e, ← c.object_at.ensures, add-one))
+    let a = c.args in
+    let e = objects_at_turn a.s.now a.at a.n c.loop-i.i c.loop-i-test.true in
+    c.loop-i.invariant ∙ rw (e, ← c.object_at.ensures, add-one)
 
 pub returns : goal.returns
 unfolding pack_objects
 returns c =
-    let p = c in
-    let a = p.args in
-    sym (p.loop-i.invariant.1 ∙ rw (objects_at_done a.s.now a.at a.n p.loop-i.i c.loop-i-test.false))
-
-pub loop-i-init : goal.loop-i-init
-loop-i-init c = (search rules, rw (sub-zero, add-zero))
+    let a = c.args in
+    sym (c.loop-i.invariant ∙ rw (objects_at_done a.s.now a.at a.n c.loop-i.i c.loop-i-test.false))

@@ -1,22 +1,24 @@
 -- `page::form::walk_page` meets its contract: one walk, and its end is the end of the bytes.
 use Prim.Native.Nat.{◌≤◌}
-use mathlib.Core.Path.{sym}
+use mathlib.Core.Path.{◌≡◌, sym, ◌∙◌}
+use mathlib.Core.Bool.{false}
 use native.Mathlib.Omega.{arith}
 use lib.ListN.{length}
+use borrow.Author.Tests.{lt-leb}
 use Rattle.lists.specs.Bools.{clash}
+use Rattle.page.specs.Form.{page_form}
 use Rattle.page.proofs.Walking.{page_long, page_told, page_walked}
 use Rattle.page.proofs.form.walk_page.Goals as goal
 
-pub returns-then-s-gt512 : goal.returns-then-s-gt512
-returns-then-s-gt512 c =
+pub returns-then-s-le512 : goal.returns-then-s-le512
+returns-then-s-le512 c =
     let s = c.args.s.now in
-    let e = page_long s (omega arith) in
-    (sym e, λ f. clash f e)
-
-pub returns : goal.returns
-returns c =
-    let b = c in
-    let s = b.args.s.now in
     let h : length s ≤ 512 = omega arith in
-    let w = c.walk-end.ensures in
-    (page_told s h _ _ c.walk-end.result w, page_walked s h _ _ c.walk-end.result w b.requires)
+    let w = c.walk.ensures in
+    (c.eq.ensures ∙ page_told s h _ _ c.walk.result w, page_walked s h _ _ c.walk.result w c.requires)
+
+pub returns-else-s-le512 : goal.returns-else-s-le512
+returns-else-s-le512 c =
+    let s = c.args.s.now in
+    let e : page_form s ≡ false = page_long s (omega arith) in
+    (lt-leb (length s) 512 (omega arith) ∙ sym e, λ f. clash f e)

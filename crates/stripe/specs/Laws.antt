@@ -1,6 +1,5 @@
 -- When a file byte is below a bound, over any stripe size z and stripe count s. The other laws are in proofs/Laws.antt.
-use Rattle.std.specs.Prelude.{ℕ, ◌+◌, ◌-◌, ◌*◌, ◌/◌, ◌%◌, ◌^◌, ◌≤◌, ◌<◌, ◌↔◌, ◌≡◌}
-use Rattle.std.proofs.Math.Option.{none, some}
+use Rattle.std.specs.Prelude.{ℕ, ◌+◌, ◌-◌, ◌*◌, ◌/◌, ◌%◌, ◌^◌, ◌≤◌, ◌<◌, ◌↔◌, ◌≡◌, None, Some}
 use Rattle.std.proofs.Common.{lt-ltb, le-ltb, le-div_iff_mul-le, arith}
 use Rattle.stripe.specs.Stripe.{file_byte, file_byte_below}
 
@@ -22,12 +21,12 @@ file_byte_below_lem b z s i p hz hs hb = (
       omega (arith, (le-div_iff_mul-le hz).0 u),
 )
 
--- If the file byte is below 2^64, `file_byte_below` is some of it.
-pub file_byte_some : (z s i p : ℕ) → file_byte z s i p < 2 ^ 64 → file_byte_below z s i p ≡ some (file_byte z s i p)
+-- If the file byte is below 2^64, `file_byte_below` is `Some` of it.
+pub file_byte_some : (z s i p : ℕ) → file_byte z s i p < 2 ^ 64 → file_byte_below z s i p ≡ Some (file_byte z s i p)
 unfolding file_byte_below
 file_byte_some z s i p h = rw (lt-ltb (file_byte z s i p) (2 ^ 64) h)
 
--- If the file byte is not below 2^64, `file_byte_below` is none.
-pub file_byte_none : (z s i p : ℕ) → (file_byte z s i p < 2 ^ 64 → ⊥) → file_byte_below z s i p ≡ none
+-- If the file byte is not below 2^64, `file_byte_below` is `None`.
+pub file_byte_none : (z s i p : ℕ) → (file_byte z s i p < 2 ^ 64 → ⊥) → file_byte_below z s i p ≡ None
 unfolding file_byte_below
 file_byte_none z s i p h = rw (le-ltb (file_byte z s i p) (2 ^ 64) (omega arith))

@@ -24,10 +24,7 @@
 -- So file byte 2M is in unit 2: stripe 2, row 0, object byte 0 (example b). File byte 3M is in unit 3: stripe 0, row 1,
 -- object byte 1M (example c is five bytes after it). A count from the component's begin would put them on stripes 0 and
 -- 1, both at object byte 0.
-use Rattle.std.specs.Prelude.{ℕ, ◌+◌, ◌*◌, ◌/◌, ◌%◌, ◌^◌, cond, ltb}
-use Rattle.std.proofs.Math.Option.{Option, none, some}
-use Rattle.stripe.specs.declared.FileByte.{FileByte}
-use Rattle.stripe.specs.declared.FileByte.TheVariants.{At, Past}
+use Rattle.std.specs.Prelude.{ℕ, ◌+◌, ◌*◌, ◌/◌, ◌%◌, ◌^◌, cond, ltb, Option, None, Some}
 
 -- The unit of the file byte o: "unit k = O / z rounded down".
 unfoldable pub unit_of : ℕ → ℕ → ℕ
@@ -46,13 +43,7 @@ object_byte z s o = unit_of z o / s * z + o % z
 unfoldable pub file_byte : ℕ → ℕ → ℕ → ℕ → ℕ
 file_byte z s i p = (p / z * s + i) * z + p % z
 
--- The file byte of the object byte p of stripe i if it is below 2^64, and none for 14, "its file offset is .. not
+-- The file byte of the object byte p of stripe i if it is below 2^64, and `None` for 14, "its file offset is .. not
 -- below 2^64".
 unfoldable pub file_byte_below : ℕ → ℕ → ℕ → ℕ → Option ℕ
-file_byte_below z s i p = cond (ltb (file_byte z s i p) (2 ^ 64)) (some (file_byte z s i p)) none
-
--- What an answer of `file_byte` says, case by case: `At` the file byte that it holds, `Past` that it is not below
--- 2^64.
-unfoldable pub file_byte_says : FileByte → Option ℕ
-file_byte_says (At o) = some o
-file_byte_says Past = none
+file_byte_below z s i p = cond (ltb (file_byte z s i p) (2 ^ 64)) (Some (file_byte z s i p)) None

@@ -4,16 +4,7 @@
 #![tactic(auto)]
 
 ghost use Rattle.std.specs.Prelude.{◌≡◌, ◌<◌, ◌≤◌};
-ghost use Rattle.stripe.specs.Stripe.{unit_of, stripe_of, object_byte, file_byte_below, file_byte_says};
-
-// The answer of the way back, from an object byte to its file byte.
-#[derive(Clone, Copy)]
-pub enum FileByte {
-    // The file byte.
-    At(u64),
-    // The file byte is not below 2^64.
-    Past,
-}
+ghost use Rattle.stripe.specs.Stripe.{unit_of, stripe_of, object_byte, file_byte_below};
 
 // The unit of a file byte, counted from 0 in units of z bytes: "unit k = O / z rounded down".
 pub fn unit_of(z: u32, offset: u64) -> u64
@@ -41,24 +32,13 @@ pub fn object_byte(z: u32, s: u16, offset: u64) -> u64
     unit_of(z, offset) / count * size + offset % size
 }
 
-// The file byte of object byte p of stripe i, "((p / z) x S + i) x z + p mod z, division rounded down", or `Past` if
-// it is "not below 2^64". That is tested first, by the last unit whose byte p mod z is below 2^64, so nothing wraps.
-pub fn file_byte(z: u32, s: u16, i: u16, p: u64) -> FileByte
+// The file byte of object byte p of stripe i, "((p / z) x S + i) x z + p mod z, division rounded down", or `None` if it
+// is "not below 2^64".
+pub fn file_byte(z: u32, s: u16, i: u16, p: u64) -> Option<u64>
     requires { (0 < z) × (0 < s) }
-    ensures { file_byte_says result ≡ file_byte_below z s i p }
+    ensures { result ≡ file_byte_below z s i p }
 {
     let size = z as u64;
-    let count = s as u64;
-    let stripe = i as u64;
-    let object_unit = p / size;
-    let unit_byte = p % size;
-    let last_unit = (u64::MAX - unit_byte) / size;
-    if last_unit < stripe {
-        return FileByte::Past;
-    }
-    if (last_unit - stripe) / count < object_unit {
-        return FileByte::Past;
-    }
-    let unit = object_unit * count + stripe;
-    FileByte::At(unit * size + unit_byte)
+    let unit = (p / size).checked_mul(s as u64)?.checked_add(i as u64)?;
+    unit.checked_mul(size)?.checked_add(p % size)
 }

@@ -1,2 +1,2 @@
-pub mod Sign
 pub mod Masks
+pub mod Bytes

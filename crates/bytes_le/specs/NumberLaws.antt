@@ -7,7 +7,7 @@ use Rattle.std.proofs.Math.Pow.{high, low}
 use Rattle.std.proofs.Math.Seq.{take-append_seam}
 use Rattle.std.proofs.Math.Facts.{of_z-to_z, Fits-of_z}
 use Rattle.std.specs.Int.{w32}
-use Rattle.bytes_le.specs.Numbers.{le, enc, i32_of, bits_of, AreBytes}
+use Rattle.bytes_le.specs.Numbers.{le, enc, i32_of, i32_at, i32_bytes, bits_of, AreBytes}
 use Rattle.bytes_le.specs.Numbers.{u16_at, u32_at, u64_at, u16_bytes, u32_bytes, u64_bytes}
 
 -- A width of k + 1 has twice the bytes of a width of k.
@@ -164,6 +164,21 @@ pub u64_below : (s : List ℕ) (at : ℕ) → AreBytes s → u64_at s at < 2 ^ 6
 unfolding u64_at
 u64_below s at h = le_below 3 s at h
 
+-- Two lists of bytes, one after the other, are bytes.
+pub bytes_append : (p s : List ℕ) → AreBytes p → AreBytes s → AreBytes (p ++ s)
+bytes_append [] s h k i = k i
+bytes_append (b ∷ p) s h k zero = h 0
+bytes_append (b ∷ p) s h k (suc i) = bytes_append p s (λ j. h (suc j)) k i
+
+-- The bytes of a number are bytes.
+pub enc_bytes : (k n : ℕ) → n < 2 ^ (8 * 2 ^ k) → AreBytes (enc k n)
+enc_bytes zero n h zero = h
+enc_bytes zero n h (suc i) = omega arith
+enc_bytes (suc k) n h i =
+    let e = 8 * 2 ^ k in
+    bytes_append (enc k (n % 2 ^ e)) (enc k (n / 2 ^ e)) (enc_bytes k (n % 2 ^ e) (mod-lt n (pow_pos e)))
+    (enc_bytes k (n / 2 ^ e) (shr_lt e e (rw (bits_twice k) at h))) i
+
 -- What was read is written again: the bytes of a number are those that it was read from.
 pub enc_le : (k : ℕ) (s : List ℕ) (at : ℕ) → AreBytes s → at + 2 ^ k ≤ length s
     → enc k (le k s at) ≡ take (2 ^ k) (drop at s)
@@ -205,6 +220,16 @@ bits_below z f = (Fits-of_z f).fits
 pub signed_bits : (n : ℕ) → n < 2 ^ 32 → bits_of (i32_of n) ≡ n
 unfolding i32_of bits_of
 signed_bits n h = of_z-to_z {w = w32} (record { fits = h })
+
+-- A signed number of 32 bits is written into four bytes, what was written is read, and what was read is written again.
+pub i32_length : (z : ℤ) → length (i32_bytes z) ≡ 4
+i32_length z = u32_length (bits_of z)
+
+pub i32_back : (z : ℤ) (t : List ℕ) → SFits w32 z → i32_at (i32_bytes z ++ t) 0 ≡ z
+i32_back z t f = rw (u32_back (bits_of z) t (bits_below z f)) (bits_signed z f)
+
+pub i32_again : (s : List ℕ) (at : ℕ) → AreBytes s → at + 4 ≤ length s → i32_bytes (i32_at s at) ≡ take 4 (drop at s)
+i32_again s at h r = rw (signed_bits (u32_at s at) (u32_below s at h)) (u32_again s at h r)
 
 -- The first n elements of a list of bytes are bytes.
 pub bytes_take : (n : ℕ) (s : List ℕ) → AreBytes s → AreBytes (take n s)

@@ -49,6 +49,10 @@ u64_bytes n = enc 3 n
 unfoldable pub bits_of : ℤ → ℕ
 bits_of z = of_z w32 z
 
+-- The four bytes of a signed number.
+abbrev pub i32_bytes : ℤ → List ℕ
+i32_bytes z = u32_bytes (bits_of z)
+
 -- The elements of the list are bytes, as those of every slice of bytes are.
 abbrev pub AreBytes : List ℕ → Type 0
 AreBytes s = (i : ℕ) → get_or s i 0 < 256

@@ -1,18 +1,154 @@
 // Little-endian numbers in a slice of bytes, read and written.
 #![tactic(auto)]
 
-ghost use Rattle.std.specs.Prelude.{◌≡◌, ◌+◌, ◌≤◌, ◌<◌, length};
+ghost use Rattle.std.specs.Prelude.{ℕ, FitsSigned, ◌≡◌, ◌+◌, ◌^◌, ◌≤◌, ◌<◌, List, ◌++◌, length, take, drop};
+ghost use Rattle.std.specs.Int.{w32};
 ghost use Rattle.std.proofs.lemmas.List.Edits.{sets};
-ghost use Rattle.bytes_le.specs.Numbers.{u16_at, u32_at, u64_at, i32_of, i32_at, bits_of};
-ghost use Rattle.bytes_le.specs.Numbers.{u16_bytes, u32_bytes, u64_bytes};
+ghost use Rattle.bytes_le.specs.Numbers.{u16_at, u32_at, u64_at, i32_at, bits_of, AreBytes};
+ghost use Rattle.bytes_le.specs.Numbers.{u16_bytes, u32_bytes, u64_bytes, i32_bytes};
+ghost use Rattle.bytes_le.specs.NumberLaws.{u16_length, u32_length, u64_length, i32_length};
+ghost use Rattle.bytes_le.specs.NumberLaws.{u16_back, u32_back, u64_back, i32_back};
+ghost use Rattle.bytes_le.specs.NumberLaws.{u16_again, u32_again, u64_again, i32_again};
 
 pub mod flags;
 
-// A byte as a wider number.
-fn wide(x: u8) -> u16
-    ensures { (result ≡ x) × (result < 256) }
-{
-    x as u16
+// A number that lies in bytes, the lowest first.
+pub trait LittleEndian: Copy {
+    // How many bytes hold a number.
+    ghost size: { ℕ };
+
+    // Does a number fit them?
+    ghost Fits: { Self → Type 0 };
+
+    // The number in the bytes from a place on.
+    ghost number_at: { List ℕ → ℕ → Self };
+
+    // The bytes of a number.
+    ghost bytes_of: { Self → List ℕ };
+
+    // The number in the bytes from `at` on.
+    fn read_at(s: &[u8], at: usize) -> Self
+        requires { at + size ≤ length s.now }
+        ensures { result ≡ number_at s.now at };
+
+    // Writes the number into the bytes from `at` on.
+    fn write_at(self, buffer: &mut [u8], at: usize)
+        requires { at + size ≤ length buffer.old }
+        ensures { buffer.new ≡ sets buffer.old at (bytes_of self) };
+
+    // A number is written into that many bytes,
+    ghost length_bytes: { (n : Self) → length (bytes_of n) ≡ size };
+
+    // what was written is read,
+    ghost back: { (n : Self) (t : List ℕ) → Fits n → number_at (bytes_of n ++ t) 0 ≡ n };
+
+    // and what was read is written again.
+    ghost again: { (s : List ℕ) (at : ℕ) → AreBytes s → at + size ≤ length s → bytes_of (number_at s at) ≡ take size (drop at s) };
+}
+
+impl LittleEndian for u16 {
+    ghost size = { 2 };
+
+    ghost Fits = { λ n. n < 2 ^ 16 };
+
+    ghost number_at = { λ s at. u16_at s at };
+
+    ghost bytes_of = { λ n. u16_bytes n };
+
+    ghost length_bytes = { u16_length };
+
+    ghost back = { u16_back };
+
+    ghost again = { u16_again };
+
+    fn read_at(s: &[u8], at: usize) -> u16 {
+        u16::from_le_bytes([s[at], s[at + 1]])
+    }
+
+    fn write_at(self, buffer: &mut [u8], at: usize) {
+        buffer[at..at + 2].copy_from_slice(&self.to_le_bytes());
+    }
+}
+
+impl LittleEndian for u32 {
+    ghost size = { 4 };
+
+    ghost Fits = { λ n. n < 2 ^ 32 };
+
+    ghost number_at = { λ s at. u32_at s at };
+
+    ghost bytes_of = { λ n. u32_bytes n };
+
+    ghost length_bytes = { u32_length };
+
+    ghost back = { u32_back };
+
+    ghost again = { u32_again };
+
+    fn read_at(s: &[u8], at: usize) -> u32 {
+        u32::from_le_bytes([s[at], s[at + 1], s[at + 2], s[at + 3]])
+    }
+
+    fn write_at(self, buffer: &mut [u8], at: usize) {
+        buffer[at..at + 4].copy_from_slice(&self.to_le_bytes());
+    }
+}
+
+impl LittleEndian for u64 {
+    ghost size = { 8 };
+
+    ghost Fits = { λ n. n < 2 ^ 64 };
+
+    ghost number_at = { λ s at. u64_at s at };
+
+    ghost bytes_of = { λ n. u64_bytes n };
+
+    ghost length_bytes = { u64_length };
+
+    ghost back = { u64_back };
+
+    ghost again = { u64_again };
+
+    fn read_at(s: &[u8], at: usize) -> u64 {
+        u64::from_le_bytes([
+            s[at],
+            s[at + 1],
+            s[at + 2],
+            s[at + 3],
+            s[at + 4],
+            s[at + 5],
+            s[at + 6],
+            s[at + 7],
+        ])
+    }
+
+    fn write_at(self, buffer: &mut [u8], at: usize) {
+        buffer[at..at + 8].copy_from_slice(&self.to_le_bytes());
+    }
+}
+
+impl LittleEndian for i32 {
+    ghost size = { 4 };
+
+    ghost Fits = { λ n. FitsSigned w32 n };
+
+    ghost number_at = { λ s at. i32_at s at };
+
+    ghost bytes_of = { λ n. i32_bytes n };
+
+    ghost length_bytes = { i32_length };
+
+    ghost back = { i32_back };
+
+    ghost again = { i32_again };
+
+    fn read_at(s: &[u8], at: usize) -> i32 {
+        u32::read_at(s, at).cast_signed()
+    }
+
+    fn write_at(self, buffer: &mut [u8], at: usize) {
+        self.cast_unsigned().write_at(buffer, at);
+    }
 }
 
 // The number in the two bytes from `at` on.
@@ -20,7 +156,7 @@ pub fn u16_at(s: &[u8], at: usize) -> u16
     requires { at + 2 ≤ length s.now }
     ensures { result ≡ u16_at s.now at }
 {
-    wide(s[at]) + 256 * wide(s[at + 1])
+    u16::read_at(s, at)
 }
 
 // The number in the four bytes from `at` on.
@@ -28,7 +164,7 @@ pub fn u32_at(s: &[u8], at: usize) -> u32
     requires { at + 4 ≤ length s.now }
     ensures { result ≡ u32_at s.now at }
 {
-    u16_at(s, at) as u32 + 65536 * (u16_at(s, at + 2) as u32)
+    u32::read_at(s, at)
 }
 
 // The number in the eight bytes from `at` on.
@@ -36,18 +172,7 @@ pub fn u64_at(s: &[u8], at: usize) -> u64
     requires { at + 8 ≤ length s.now }
     ensures { result ≡ u64_at s.now at }
 {
-    u32_at(s, at) as u64 + 4294967296 * (u32_at(s, at + 4) as u64)
-}
-
-// The signed number of 32 bits, in two's complement.
-pub fn signed(bits: u32) -> i32
-    ensures { result ≡ i32_of bits }
-{
-    if bits < 0x8000_0000 {
-        bits as i32
-    } else {
-        !((!bits) as i32)
-    }
+    u64::read_at(s, at)
 }
 
 // The signed number in the four bytes from `at` on.
@@ -55,18 +180,14 @@ pub fn i32_at(s: &[u8], at: usize) -> i32
     requires { at + 4 ≤ length s.now }
     ensures { result ≡ i32_at s.now at }
 {
-    signed(u32_at(s, at))
+    i32::read_at(s, at)
 }
 
 // The 32 bits of a signed number, in two's complement.
 pub fn bits_of(number: i32) -> u32
     ensures { result ≡ bits_of number }
 {
-    if number >= 0 {
-        number as u32
-    } else {
-        !((!number) as u32)
-    }
+    number.cast_unsigned()
 }
 
 // Writes the number into the two bytes from `at` on.
@@ -74,8 +195,7 @@ pub fn put_u16(buffer: &mut [u8], at: usize, number: u16)
     requires { at + 2 ≤ length buffer.old }
     ensures { buffer.new ≡ sets buffer.old at (u16_bytes number) }
 {
-    buffer[at] = (number % 256) as u8;
-    buffer[at + 1] = (number / 256) as u8;
+    number.write_at(buffer, at);
 }
 
 // Writes the number into the four bytes from `at` on.
@@ -83,8 +203,7 @@ pub fn put_u32(buffer: &mut [u8], at: usize, number: u32)
     requires { at + 4 ≤ length buffer.old }
     ensures { buffer.new ≡ sets buffer.old at (u32_bytes number) }
 {
-    put_u16(buffer, at, (number % 65536) as u16);
-    put_u16(buffer, at + 2, (number / 65536) as u16);
+    number.write_at(buffer, at);
 }
 
 // Writes the number into the eight bytes from `at` on.
@@ -92,6 +211,5 @@ pub fn put_u64(buffer: &mut [u8], at: usize, number: u64)
     requires { at + 8 ≤ length buffer.old }
     ensures { buffer.new ≡ sets buffer.old at (u64_bytes number) }
 {
-    put_u32(buffer, at, (number % 4294967296) as u32);
-    put_u32(buffer, at + 4, (number / 4294967296) as u32);
+    number.write_at(buffer, at);
 }

@@ -1,19 +1,15 @@
 -- `bytes_le::flags::word` meets its contract: each of the four words is the sum of its flags.
+use Rattle.std.proofs.Common.{◌≡◌, ◌+◌, ◌*◌, Bool, true, false, refl}
+use Rattle.std.specs.Int.{from_bool}
 use Rattle.bytes_le.specs.Flags.{flag_word}
 use Rattle.bytes_le.proofs.flags.word.Goals as goal
 
-pub returns-then-second : goal.returns-then-second
+sum_of : (a b : Bool) → from_bool a + 2 * from_bool b ≡ flag_word a b
 unfolding flag_word
-returns-then-second c = rw (c.if-first.true, c.if-second.true)
+sum_of true true = refl
+sum_of true false = refl
+sum_of false true = refl
+sum_of false false = refl
 
-pub returns-else-second : goal.returns-else-second
-unfolding flag_word
-returns-else-second c = rw (c.if-first.true, c.if-second.false)
-
-pub returns-then-second-2 : goal.returns-then-second-2
-unfolding flag_word
-returns-then-second-2 c = rw (c.if-first.false, c.if-second-2.true)
-
-pub returns-else-second-2 : goal.returns-else-second-2
-unfolding flag_word
-returns-else-second-2 c = rw (c.if-first.false, c.if-second-2.false)
+pub returns : goal.returns
+returns c = rw (c.from.ensures, c.from-2.ensures) (sum_of c.args.first c.args.second)

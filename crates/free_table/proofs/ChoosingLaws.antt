@@ -1,8 +1,8 @@
 -- Laws of choosing: how it goes record by record, and what is known of the objects chosen in a good table.
 use Prim.Native.Nat.{ℕ, zero, suc, ◌+◌, ◌-◌, ◌≤◌, ◌<◌}
-use Rattle.std.specs.Prelude.{◌≡◌, Bool, true, false, cond, leb, length, get_or, replicate}
+use Rattle.std.specs.Prelude.{◌≡◌, Bool, true, false, cond, ltb, ◌&&◌, leb, length, get_or, drop, set, replicate, ◌⊎◌}
 use Rattle.std.proofs.Math.Path.{refl}
-use Rattle.std.proofs.Common.{sym, ap, ◌∙◌, arith, zero-add, length-append, leb-true, ne_eqb}
+use Rattle.std.proofs.Common.{inl, inr, sym, ap, ◌∙◌, arith, zero-add, length-append, leb-true, ltb-true, ltb-false, ne_eqb, get_or-take}
 use mathlib.Core.List.{List, [], ◌∷◌, ◌++◌, map}
 use Rattle.std.proofs.Math.Nat.{sub-zero, suc-sub-suc}
 use Rattle.std.proofs.Math.ListN.{take, length-take, length-map, get_or-map}
@@ -13,23 +13,20 @@ use Rattle.lists.specs.Slices.{sets_append}
 use Rattle.lists.specs.Counting.{count}
 use Rattle.layout.specs.declared.Object.{Object}
 use Rattle.layout.specs.Records.{no_object, pack_objects}
+use Rattle.layout.specs.RecordLaws.{records_pack}
 use Rattle.layout.specs.Distinct.{same_object}
 use Rattle.layout.specs.FactLaws.{same_object_lem}
 use Rattle.free_table.specs.declared.TargetRecord.{TargetRecord}
-use Rattle.free_table.specs.declared.Table.{Table}
 use Rattle.free_table.specs.declared.Choice.{Choice}
-use Rattle.free_table.specs.Table.{no_record, table_of, target_ok, target_above, rising, table_ok}
+use Rattle.free_table.specs.Table.{no_record, target_ok, target_above, rising, table_ok}
 use Rattle.free_table.proofs.TableLaws.{first_rises, rises_first, rising_lower, target_most, target_rises}
 use Rattle.free_table.specs.Choosing.{next_object, raised, passing, chosen, raised_first, choice_of, with_more}
+use Rattle.free_table.specs.Scanning.{choice_after}
 
 -- A table that is not bad has at most 64 records, and their targets rise.
 pub table_facts : (rs : List TargetRecord) → table_ok rs ≡ true → (length rs ≤ 64) × (rising 0 rs ≡ true)
 unfolding table_ok
 table_facts rs e = let p = both_true (leb (length rs) 64) (rising 0 rs) e in (leb-true (length rs) 64 p.0, p.1)
-
--- Of a table that is not bad the count is at most 64: its array has 65 places, so a higher count means more than 64 records.
-pub table_count : (t : Table) → length t.records ≡ 65 → table_ok (table_of t) ≡ true → t.count ≤ 64
-table_count t h e = omega (arith, (table_facts (table_of t) e).0, length-take t.count t.records)
 
 -- The next object of the record at a place.
 pub next_at : (rs : List TargetRecord) (i : ℕ) → get_or (map next_object rs) i no_object ≡ next_object (get_or rs i no_record)
@@ -201,3 +198,59 @@ module _ (ok : TargetRecord → Bool) where
     pub chosen_once : (o : Object) → count same_object o (chosen ok s rs) ≤ 1
     unfolding chosen
     chosen_once o = next_once from (take s (passing ok rs)) (first_rise from s rs e) o
+
+-- What is chosen after a record, with what is chosen from the records after it, is what is chosen from all of them.
+pub choice_more : (ok : TargetRecord → Bool) (choice : Choice) (w : ℕ) (r : TargetRecord) (rs : List TargetRecord)
+    → choice.count ≤ w
+    → (let c = choice_after choice w (ok r) r in
+    with_more c (chosen ok (w - c.count) rs) ≡ with_more choice (chosen ok (w - choice.count) (r ∷ rs)))
+unfolding choice_after
+choice_more ok choice w r rs h =
+    let all = with_more choice (chosen ok (w - choice.count) (r ∷ rs)) in
+    cond_elim (λ (c : Choice). with_more c (chosen ok (w - c.count) rs) ≡ all) (ltb choice.count w && ok r)
+    (λ e. let p = both_true (ltb choice.count w) (ok r) e in
+    let k = ltb-true choice.count w p.0 in
+    let n : w - (choice.count + 1) ≡ w - choice.count - 1 = omega arith in
+    more_twice choice (next_object r ∷ []) (chosen ok (w - (choice.count + 1)) rs)
+    ∙ ap (λ (m : ℕ). with_more choice (next_object r ∷ chosen ok m rs)) n
+    ∙ ap (with_more choice) (sym (chosen_first ok (w - choice.count) r rs (omega arith) p.1)))
+    (λ e. bool_cases (ltb choice.count w)
+    (λ l. ap (with_more choice) (sym (chosen_past ok (w - choice.count) r rs (rw l at e))))
+    (λ l. let k = ltb-false choice.count w l in
+    let z : w - choice.count ≡ 0 = omega arith in
+    rw (z, chosen_none ok rs, chosen_none ok (r ∷ rs))))
+
+-- If the targets of at most 16 objects are at most n, so is that in the first place that they are packed into, blank or not.
+pub first_packed : (os : List Object) (n : ℕ) → length os ≤ 16 → ((i : ℕ) → i < length os → (get_or os i no_object).target ≤ n)
+    → (get_or (pack_objects os) 0 no_object).target ≤ n
+unfolding pack_objects
+first_packed [] n h f = omega arith
+first_packed (o ∷ os) n h f =
+    let e : get_or (pack_objects (o ∷ os)) 0 no_object ≡ o =
+    sym (get_or-take (length (o ∷ os)) (pack_objects (o ∷ os)) 0 no_object (omega arith))
+    ∙ ap (λ (l : List Object). get_or l 0 no_object) (records_pack (o ∷ os) h) in
+    rw (ap (λ (v : Object). v.target) e) (f 0 (omega arith))
+
+-- What becomes of records if those before place i stay and of those from i on the first that pass are raised.
+abbrev pub raised_from : (TargetRecord → Bool) → ℕ → ℕ → List TargetRecord → List TargetRecord
+raised_from ok left i rs = take i rs ++ raised_first ok left (drop i rs)
+
+module _ (ok : TargetRecord → Bool) where
+  -- The record at i passes, and some are to be raised: it is raised first.
+  pub raised_turn : (left i : ℕ) (rs : List TargetRecord) → i < length rs → 0 < left → ok (get_or rs i no_record) ≡ true
+      → raised_from ok (left - 1) (suc i) (set rs i (raised (get_or rs i no_record))) ≡ raised_from ok left i rs
+  raised_turn left i [] h p e = absurd (omega arith)
+  raised_turn zero zero (r ∷ rs) h p e = absurd (omega arith)
+  raised_turn (suc left) zero (r ∷ rs) h p e = rw (e, suc-sub-suc, sub-zero)
+  raised_turn left (suc i) (r ∷ rs) h p e =
+      ap (λ (qs : List TargetRecord). r ∷ qs) (raised_turn left i rs (omega arith) p e)
+
+  -- None is to be raised, or the record at i does not pass: it is passed over.
+  pub passed_turn : (left i : ℕ) (rs : List TargetRecord) → i < length rs → (left ≡ 0) ⊎ (ok (get_or rs i no_record) ≡ false)
+      → raised_from ok left (suc i) rs ≡ raised_from ok left i rs
+  passed_turn left i [] h e = absurd (omega arith)
+  passed_turn zero zero (r ∷ rs) h e = rw (raised_none ok rs)
+  passed_turn (suc left) zero (r ∷ rs) h (inl z) = absurd (omega arith)
+  passed_turn (suc left) zero (r ∷ rs) h (inr e) = rw e
+  passed_turn left (suc i) (r ∷ rs) h e =
+      ap (λ (qs : List TargetRecord). r ∷ qs) (passed_turn left i rs (omega arith) e)

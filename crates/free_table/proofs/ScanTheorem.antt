@@ -1,8 +1,8 @@
 -- What is known of a free table after it was scanned: whether it is bad, and of a good one what was chosen and whether
 -- a target that was asked for is low. It is what the definitions over the whole table say.
-use Rattle.std.specs.Prelude.{ℕ, zero, suc, ◌+◌, ◌-◌, ◌≤◌, ◌<◌, ◌≡◌, Bool, true, false, cond, ◌&&◌, ◌||◌, ltb, eqb, length, get_or, take, replicate}
+use Rattle.std.specs.Prelude.{ℕ, zero, suc, ◌+◌, ◌-◌, ◌≤◌, ◌<◌, ◌≡◌, Some, None, is_some, Bool, true, false, cond, ◌&&◌, ◌||◌, eqb, length, get_or, take, replicate}
 use Rattle.std.proofs.Math.Path.{refl, ap}
-use Rattle.std.proofs.Common.{sym, ◌∙◌, arith, ltb-true, ltb-false, eq-eqb, ne_eqb, eqb-true}
+use Rattle.std.proofs.Common.{sym, ◌∙◌, arith, ne_eqb, eqb-true}
 use mathlib.Core.List.{List, [], ◌∷◌}
 use Rattle.std.proofs.Math.Nat.{sub-zero}
 use Rattle.lists.specs.Bools.{cond_elim, bool_cases, both_true, clash}
@@ -11,51 +11,52 @@ use Rattle.lists.specs.Slices.{take_sets}
 use Rattle.layout.specs.declared.Object.{Object}
 use Rattle.layout.specs.Records.{no_object}
 use Rattle.layout.specs.Rows.{targets_of}
+use Rattle.refusals.specs.declared.Refusal.TheVariants as Refusal
 use Rattle.free_table.specs.declared.TargetRecord.{TargetRecord}
-use Rattle.free_table.specs.declared.Choice.{Choice}
 use Rattle.free_table.specs.declared.Targets.{Targets}
 use Rattle.free_table.specs.declared.Scan.{Scan}
 use Rattle.free_table.specs.Table.{no_record, target_ok, rising, free_below, is_low, any_low, usable}
-use Rattle.free_table.specs.Choosing.{next_object, chosen, choice_of, with_more}
-use Rattle.free_table.specs.Scanning.{listed, pack_targets, new_scan, with_refusal, eligible, low_by, lows_after, choice_after, told, seen, scanned, any_set, some_low}
+use Rattle.free_table.specs.Choosing.{chosen, choice_of, with_more}
+use Rattle.free_table.specs.Scanning.{listed, pack_targets, new_scan, with_refusal, eligible, low_by, lows_after, told, seen, scanned, any_set, some_low}
 use Rattle.free_table.proofs.TableLaws.{first_rises}
-use Rattle.free_table.proofs.ChoosingLaws.{more_chosen, more_twice, more_none, chosen_none, chosen_nil, chosen_first, chosen_past}
+use Rattle.free_table.proofs.ChoosingLaws.{more_chosen, more_none, chosen_nil, choice_more}
 use Rattle.free_table.proofs.ChosenLaws.{chosen_usable}
 use Rattle.free_table.specs.ScanLaws.{choice_few}
 
 -- One record, by cases. If its target may be where it is, what it tells is taken in;
 module _ (s : Scan) (r : TargetRecord) where
-  pub seen_good : s.refusal ≡ 0 → target_ok s.from r ≡ true → seen s r ≡ told s r
+  pub seen_good : s.refusal ≡ None → target_ok s.from r ≡ true → seen s r ≡ told s r
   unfolding seen
-  seen_good e t = rw (eq-eqb s.refusal 0 e, t)
+  seen_good e t = rw (e, t)
 
   -- another one refuses the call;
-  pub seen_bad : s.refusal ≡ 0 → target_ok s.from r ≡ false → seen s r ≡ with_refusal 15 s
+  pub seen_bad : s.refusal ≡ None → target_ok s.from r ≡ false → seen s r ≡ with_refusal Refusal.Table s
   unfolding seen
-  seen_bad e t = rw (eq-eqb s.refusal 0 e, t)
+  seen_bad e t = rw (e, t)
 
   -- and if the call is refused, no record changes anything.
-  pub seen_refused : (s.refusal ≡ 0 → ⊥) → seen s r ≡ s
+  pub seen_refused : is_some s.refusal ≡ true → seen s r ≡ s
   unfolding seen
-  seen_refused e = rw (ne_eqb s.refusal 0 e)
+  seen_refused e = rw e
 
 -- A call that is refused stays so: the records after that change nothing.
-pub scanned_kept : (s : Scan) (rs : List TargetRecord) → (s.refusal ≡ 0 → ⊥) → scanned s rs ≡ s
+pub scanned_kept : (s : Scan) (rs : List TargetRecord) → is_some s.refusal ≡ true → scanned s rs ≡ s
 scanned_kept s [] e = refl
 scanned_kept s (r ∷ rs) e = ap (λ (v : Scan). scanned v rs) (seen_refused s r e) ∙ scanned_kept s rs e
 
 -- From a scan that is not refused, records that do not rise are refused with 15,
-bad_from : (s : Scan) (rs : List TargetRecord) → s.refusal ≡ 0 → rising s.from rs ≡ false → (scanned s rs).refusal ≡ 15
+bad_from : (s : Scan) (rs : List TargetRecord) → s.refusal ≡ None → rising s.from rs ≡ false
+    → (scanned s rs).refusal ≡ Some Refusal.Table
 unfolding told
 bad_from s [] e h = clash refl h
 bad_from s (r ∷ rs) e h =
     bool_cases (target_ok s.from r)
     (λ t. ap (λ (v : Scan). (scanned v rs).refusal) (seen_good s r e t) ∙ bad_from (told s r) rs e (rw t at h))
     (λ t. ap (λ (v : Scan). (scanned v rs).refusal) (seen_bad s r e t)
-    ∙ ap (λ (v : Scan). v.refusal) (scanned_kept (with_refusal 15 s) rs (λ q. absurd (omega arith))))
+    ∙ ap (λ (v : Scan). v.refusal) (scanned_kept (with_refusal Refusal.Table s) rs refl))
 
 -- What the first of rising records tells is taken in, and those after it rise from there on.
-first_told : (s : Scan) (r : TargetRecord) (rs : List TargetRecord) → s.refusal ≡ 0 → rising s.from (r ∷ rs) ≡ true
+first_told : (s : Scan) (r : TargetRecord) (rs : List TargetRecord) → s.refusal ≡ None → rising s.from (r ∷ rs) ≡ true
     → (scanned s (r ∷ rs) ≡ scanned (told s r) rs) × (rising (told s r).from rs ≡ true)
 unfolding told
 first_told s r rs e h =
@@ -63,36 +64,15 @@ first_told s r rs e h =
     (ap (λ (v : Scan). scanned v rs) (seen_good s r e p.0), p.1)
 
 -- Records that rise are not refused.
-good_from : (s : Scan) (rs : List TargetRecord) → s.refusal ≡ 0 → rising s.from rs ≡ true → (scanned s rs).refusal ≡ 0
+good_from : (s : Scan) (rs : List TargetRecord) → s.refusal ≡ None → rising s.from rs ≡ true → (scanned s rs).refusal ≡ None
 unfolding told
 good_from s [] e h = e
 good_from s (r ∷ rs) e h =
     let p = first_told s r rs e h in
     ap (λ (v : Scan). v.refusal) p.0 ∙ good_from (told s r) rs e p.1
 
--- What is chosen after a record, with what is chosen from the records after it, is what is chosen from all of them.
-choice_more : (ok : TargetRecord → Bool) (choice : Choice) (w : ℕ) (r : TargetRecord) (rs : List TargetRecord)
-    → choice.count ≤ w
-    → (let c = choice_after choice w (ok r) r in
-    with_more c (chosen ok (w - c.count) rs) ≡ with_more choice (chosen ok (w - choice.count) (r ∷ rs)))
-unfolding choice_after
-choice_more ok choice w r rs h =
-    let all = with_more choice (chosen ok (w - choice.count) (r ∷ rs)) in
-    cond_elim (λ (c : Choice). with_more c (chosen ok (w - c.count) rs) ≡ all) (ltb choice.count w && ok r)
-    (λ e. let p = both_true (ltb choice.count w) (ok r) e in
-    let k = ltb-true choice.count w p.0 in
-    let n : w - (choice.count + 1) ≡ w - choice.count - 1 = omega arith in
-    more_twice choice (next_object r ∷ []) (chosen ok (w - (choice.count + 1)) rs)
-    ∙ ap (λ (m : ℕ). with_more choice (next_object r ∷ chosen ok m rs)) n
-    ∙ ap (with_more choice) (sym (chosen_first ok (w - choice.count) r rs (omega arith) p.1)))
-    (λ e. bool_cases (ltb choice.count w)
-    (λ l. ap (with_more choice) (sym (chosen_past ok (w - choice.count) r rs (rw l at e))))
-    (λ l. let k = ltb-false choice.count w l in
-    let z : w - choice.count ≡ 0 = omega arith in
-    rw (z, chosen_none ok rs, chosen_none ok (r ∷ rs))))
-
 -- After records that rise, the choice is what was chosen before them, followed by what is chosen from them.
-choice_from : (s : Scan) (rs : List TargetRecord) → s.refusal ≡ 0 → rising s.from rs ≡ true
+choice_from : (s : Scan) (rs : List TargetRecord) → s.refusal ≡ None → rising s.from rs ≡ true
     → s.choice.count ≤ s.wanted
     → (scanned s rs).choice
     ≡ with_more s.choice (chosen (eligible s.mark (listed s.left_out)) (s.wanted - s.choice.count) rs)
@@ -159,7 +139,7 @@ lows_nil mark (t ∷ ts) [] = refl
 lows_nil mark (t ∷ ts) (b ∷ low) = ap (λ (l : List Bool). b ∷ l) (lows_nil mark ts low)
 
 -- After records that rise, the flag of each target that is asked for is what its record says. With no record it stays.
-lows_from : (s : Scan) (rs : List TargetRecord) → s.refusal ≡ 0 → rising s.from rs ≡ true
+lows_from : (s : Scan) (rs : List TargetRecord) → s.refusal ≡ None → rising s.from rs ≡ true
     → (scanned s rs).low ≡ lows_else s.mark rs (listed s.asked) s.low
 unfolding told
 lows_from s [] e h = sym (lows_nil s.mark (listed s.asked) s.low)
@@ -182,8 +162,8 @@ lows_any mark rs (t ∷ ts) (suc n) h =
 seen_asked : (s : Scan) (r : TargetRecord) → (seen s r).asked ≡ s.asked
 unfolding seen told
 seen_asked s r =
-    cond_elim (λ (v : Scan). v.asked ≡ s.asked) (eqb s.refusal 0)
-    (λ e. cond_elim (λ (v : Scan). v.asked ≡ s.asked) (target_ok s.from r) (λ t. refl) (λ t. refl)) (λ e. refl)
+    cond_elim (λ (v : Scan). v.asked ≡ s.asked) (is_some s.refusal) (λ e. refl)
+    (λ e. cond_elim (λ (v : Scan). v.asked ≡ s.asked) (target_ok s.from r) (λ t. refl) (λ t. refl))
 
 pub scanned_asked : (s : Scan) (rs : List TargetRecord) → (scanned s rs).asked ≡ s.asked
 scanned_asked s [] = refl
@@ -192,13 +172,13 @@ scanned_asked s (r ∷ rs) = scanned_asked (seen s r) rs ∙ seen_asked s r
 -- What is known after all the records of a table, from the beginning on.
 module _ (n mark : ℕ) (asked out : Targets) (w : ℕ) (rs : List TargetRecord) where
   -- "targets strictly rising and at most 65,534, else 15"
-  pub scan_bad : rising 0 rs ≡ false → (scanned (new_scan n mark asked out w) rs).refusal ≡ 15
+  pub scan_bad : rising 0 rs ≡ false → (scanned (new_scan n mark asked out w) rs).refusal ≡ Some Refusal.Table
   unfolding new_scan
   scan_bad e = bad_from (new_scan n mark asked out w) rs refl e
 
   -- Of a table whose targets rise: the call is not refused,
   module _ (e : rising 0 rs ≡ true) where
-    pub scan_good : (scanned (new_scan n mark asked out w) rs).refusal ≡ 0
+    pub scan_good : (scanned (new_scan n mark asked out w) rs).refusal ≡ None
     unfolding new_scan
     scan_good = good_from (new_scan n mark asked out w) rs refl e
 

@@ -1,7 +1,7 @@
 -- Laws of the scan and of the raise of a free table, record by record: what one record more changes, and which objects the next
 -- object of a record is none of.
-use Rattle.std.specs.Prelude.{ℕ, zero, suc, ◌+◌, ◌-◌, ◌≤◌, ◌<◌, ◌≡◌, refl, List, [], ◌∷◌, Bool, true, false, cond, ◌&&◌, ltb, eqb, length, get_or, take, set}
-use Rattle.std.proofs.Common.{ap, sym, ◌∙◌, arith, add-one, length-take, get_or-take, ltb-true, ne_eqb}
+use Rattle.std.specs.Prelude.{ℕ, zero, suc, ◌+◌, ◌-◌, ◌≤◌, ◌<◌, ◌≡◌, refl, List, [], ◌∷◌, is_some, Bool, true, false, cond, ◌&&◌, ltb, length, get_or, take, set}
+use Rattle.std.proofs.Common.{ap, sym, ◌∙◌, arith, add-one, ltb-true, ne_eqb}
 use Rattle.lists.specs.Bools.{cond_elim, bool_cases, both_true, clash}
 use Rattle.lists.specs.Tests.{after_append}
 use Rattle.lists.specs.Slices.{take_next}
@@ -52,11 +52,10 @@ choice_few choice s may r h =
 fit_seen : (s : Scan) (r : TargetRecord) → Fit s → Fit (seen s r)
 unfolding seen told
 fit_seen s r f =
-    cond_elim Fit (eqb s.refusal 0)
+    cond_elim Fit (is_some s.refusal) (λ e. f)
     (λ e. cond_elim Fit (target_ok s.from r)
     (λ t. (choice_few s.choice s.wanted (eligible s.mark (listed s.left_out) r) r f.0, f.1, f.2, f.3))
     (λ t. f))
-    (λ e. f)
 
 pub fit_scanned : (s : Scan) (rs : List TargetRecord) → Fit s → Fit (scanned s rs)
 fit_scanned s [] f = f
@@ -65,7 +64,7 @@ fit_scanned s (r ∷ rs) f = fit_scanned (seen s r) rs (fit_seen s r f)
 -- An object that is among others has a target, and a number, below a bound that is above those of all of them. `of` is the target
 -- or the number.
 module _ (of : Object → ℕ) (bound : ℕ) where
-  among_all : (os : List Object) → ((j : ℕ) → j < length os → of (get_or os j no_object) < bound) → (x : Object)
+  pub among_all : (os : List Object) → ((j : ℕ) → j < length os → of (get_or os j no_object) < bound) → (x : Object)
       → elem same_object x os ≡ true → of x < bound
   among_all [] f x e = clash refl (sym e)
   among_all (o ∷ os) f x e =
@@ -73,25 +72,20 @@ module _ (of : Object → ℕ) (bound : ℕ) where
       (λ q. let n = ap of (same_object_lem x o q) in omega (arith, f 0 (omega arith)))
       (λ q. among_all os (λ j h. f (suc j) (omega arith)) x (rw q at e))
 
-  pub among_below : (os : List Object) (n : ℕ) → ((j : ℕ) → j < n → of (get_or os j no_object) < bound) → (x : Object)
-      → elem same_object x (take n os) ≡ true → of x < bound
-  among_below os n f x e =
-      among_all (take n os)
-      (λ j h. let k : j < n = omega (arith, length-take n os) in rw (get_or-take n os j no_object k) (f j k)) x e
-
 -- An object on a higher target than others is none of them.
-pub none_past : (os : List Object) (n : ℕ) (x : Object) → ((j : ℕ) → j < n → (get_or os j no_object).target < x.target)
-    → elem same_object x (take n os) ≡ false
-none_past os n x f =
-    bool_cases (elem same_object x (take n os))
-    (λ e. absurd (omega (arith, among_below target_of x.target os n f x e))) (λ e. e)
+pub none_past : (os : List Object) (x : Object) → ((j : ℕ) → j < length os → (get_or os j no_object).target < x.target)
+    → elem same_object x os ≡ false
+none_past os x f =
+    bool_cases (elem same_object x os)
+    (λ e. absurd (omega (arith, among_all target_of x.target os f x e))) (λ e. e)
 
 -- A target above that of the last object is above those of all, if the last has the highest.
-pub past_all : (os : List Object) (n target : ℕ) → past_last os n target ≡ true
-    → ((j : ℕ) → j < n → (get_or os j no_object).target ≤ (get_or os (n - 1) no_object).target)
-    → (j : ℕ) → j < n → (get_or os j no_object).target < target
+pub past_all : (os : List Object) (target : ℕ) → past_last os target ≡ true
+    → ((j : ℕ) → j < length os → (get_or os j no_object).target ≤ (get_or os (length os - 1) no_object).target)
+    → (j : ℕ) → j < length os → (get_or os j no_object).target < target
 unfolding past_last
-past_all os n target e f j h =
-    let last = (get_or os (n - 1) no_object).target in
-    let k : ltb last target ≡ true = sym (ap (λ (t : Bool). cond t false (ltb last target)) (ne_eqb n 0 (λ z. omega arith))) ∙ e in
+past_all os target e f j h =
+    let last = (get_or os (length os - 1) no_object).target in
+    let k : ltb last target ≡ true =
+    sym (ap (λ (t : Bool). cond t false (ltb last target)) (ne_eqb (length os) 0 (λ z. omega arith))) ∙ e in
     omega (arith, f j h, ltb-true last target k)

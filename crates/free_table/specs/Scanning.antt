@@ -1,9 +1,10 @@
 -- The free table scanned record by record: what a step of growth asks of it, and what is known after some of its records.
 -- What is in quotes is document 01's.
-use Rattle.std.specs.Prelude.{ℕ, ◌+◌, ◌≤◌, List, [], ◌∷◌, Bool, true, not, cond, ◌&&◌, ltb, eqb, length, take, replicate}
+use Rattle.std.specs.Prelude.{ℕ, ◌+◌, ◌≤◌, List, [], ◌∷◌, Some, None, is_some, Bool, true, not, cond, ◌&&◌, ltb, eqb, length, take, replicate}
 use Rattle.std.proofs.lemmas.List.Edits.{sets}
 use Rattle.lists.specs.Tests.{after, any_of}
 use Rattle.lists.specs.Counting.{elem}
+use Rattle.refusals.specs.declared.Refusal.{Refusal}
 use Rattle.free_table.specs.declared.TargetRecord.{TargetRecord}
 use Rattle.free_table.specs.declared.Choice.{Choice}
 use Rattle.free_table.specs.declared.Targets.{Targets}
@@ -24,7 +25,7 @@ pack_targets ts = record { count = length ts; targets = sets (replicate 16 0) 0 
 unfoldable pub new_scan : ℕ → ℕ → Targets → Targets → ℕ → Scan
 new_scan records mark asked out wanted =
     record {
-      refusal = 0;
+      refusal = None;
       records = records;
       mark = mark;
       asked = asked;
@@ -35,11 +36,11 @@ new_scan records mark asked out wanted =
       from = 0;
     }
 
--- A scan with another refusal.
-abbrev pub with_refusal : ℕ → Scan → Scan
-with_refusal n s =
+-- A scan that is refused.
+abbrev pub with_refusal : Refusal → Scan → Scan
+with_refusal e s =
     record {
-      refusal = n;
+      refusal = Some e;
       records = s.records;
       mark = s.mark;
       asked = s.asked;
@@ -51,8 +52,8 @@ with_refusal n s =
     }
 
 -- The scan of a call that is refused before the table is looked at: none of its records is.
-unfoldable pub refused_scan : ℕ → Scan
-refused_scan n = with_refusal n (new_scan 0 0 (pack_targets []) (pack_targets []) 0)
+unfoldable pub refused_scan : Refusal → Scan
+refused_scan e = with_refusal e (new_scan 0 0 (pack_targets []) (pack_targets []) 0)
 
 -- The record's target is usable, and it is none of those that are left out.
 unfoldable pub eligible : ℕ → List ℕ → TargetRecord → Bool
@@ -91,7 +92,7 @@ told s r =
 
 -- What is known after one record more: "targets strictly rising and at most 65,534, else 15".
 unfoldable pub seen : Scan → TargetRecord → Scan
-seen s r = cond (eqb s.refusal 0) (cond (target_ok s.from r) (told s r) (with_refusal 15 s)) s
+seen s r = cond (is_some s.refusal) s (cond (target_ok s.from r) (told s r) (with_refusal Refusal.Table s))
 
 -- What is known after all the records.
 abbrev pub scanned : Scan → List TargetRecord → Scan

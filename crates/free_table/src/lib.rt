@@ -2,30 +2,64 @@
 // usable, and which are chosen.
 #![tactic(auto)]
 
-ghost use Rattle.std.specs.Prelude.{◌≡◌, [], ◌∷◌, true, ◌+◌, ◌-◌, ◌≤◌, length, get_or};
-ghost use Rattle.layout.specs.Records.{no_object, records_of};
-ghost use Rattle.free_table.specs.Table.{table_of, with_records, rising, table_ok, free_below, is_low, any_low, usable};
-ghost use Rattle.free_table.specs.Choosing.{chosen, raised_first, choice_of, with_more};
+ghost use Rattle.std.specs.Prelude.{◌≡◌, [], ◌∷◌, true, ◌<◌, ◌≤◌, get_or};
+ghost use Rattle.layout.specs.Records.{no_object};
+ghost use Rattle.free_table.specs.Table.{rising, table_ok, is_low, any_low, usable};
+ghost use Rattle.free_table.specs.Choosing.{chosen, raised_first, choice_of};
 
-use layout::{Component, NO_OBJECT, Object};
+use layout::{NO_OBJECT, Object};
+use refusals::Refusal;
 
 pub mod raising;
 pub mod scanning;
 
-// A target of the free table: its free bytes, and the number of the next object to be made on it.
-#[derive(Clone, Copy)]
+// A target of the free table: its free bytes, and the number of the next object to be made on it. A free table is a
+// list of these, targets rising.
+#[derive(Clone, Copy, PartialEq, Eq)]
 pub struct TargetRecord {
     pub target: u32,
     pub free: u64,
     pub next: u64,
 }
 
-// A free table: its records are in the first `count` places. A table has at most 64 records; the place more is there
-// so that a table with too many is told from one with 64.
-#[derive(Clone, Copy)]
-pub struct Table {
-    pub count: usize,
-    pub records: [TargetRecord; 65],
+impl TargetRecord {
+    ghost use Rattle.free_table.specs.Table.{free_below, usable};
+    ghost use Rattle.free_table.specs.Choosing.{next_object, raised};
+
+    // Are the free bytes of the target below the mark?
+    fn free_below(self, mark: u64) -> bool
+        ensures { result ≡ free_below mark self }
+    {
+        self.free < mark
+    }
+
+    // Is the target usable?
+    fn is_usable(self, mark: u64) -> bool
+        ensures { result ≡ usable mark self }
+    {
+        !self.free_below(mark) && self.next < u64::MAX
+    }
+
+    // The next object on the target.
+    fn next_object(self) -> Object
+        ensures { result ≡ next_object self }
+    {
+        Object {
+            target: self.target,
+            number: self.next,
+        }
+    }
+
+    // The record once its next object is made.
+    fn raised(self) -> TargetRecord
+        requires { self.next < 18446744073709551615 }
+        ensures { result ≡ raised self }
+    {
+        TargetRecord {
+            next: self.next + 1,
+            ..self
+        }
+    }
 }
 
 // The objects on chosen targets: in the first `count` places, the rest blank.
@@ -33,6 +67,33 @@ pub struct Table {
 pub struct Choice {
     pub count: usize,
     pub objects: [Object; 16],
+}
+
+impl Choice {
+    ghost use Rattle.std.specs.Prelude.{take};
+    ghost use Rattle.free_table.specs.Scanning.{choice_after};
+
+    // The chosen objects.
+    pub fn objects(&self) -> &[Object]
+        requires { self.now.count ≤ 16 }
+        ensures { result.now ≡ take self.now.count self.now.objects }
+    {
+        &self.objects[..self.count]
+    }
+
+    // The choice of at most s objects, with the next object of the record if the record may be chosen and fewer are.
+    fn after(self, s: usize, may: bool, r: TargetRecord) -> Choice
+        requires { s ≤ 16 }
+        ensures { result ≡ choice_after self s may r }
+    {
+        if !(self.count < s && may) {
+            return self;
+        }
+        let mut more = self;
+        more.objects[self.count] = r.next_object();
+        more.count += 1;
+        more
+    }
 }
 
 // Up to 16 targets, in the first `count` places.
@@ -45,8 +106,8 @@ pub struct Targets {
 // A scan of the free table, record by record: what a step of growth asks of it, and what is known after some records.
 #[derive(Clone, Copy)]
 pub struct Scan {
-    // the number by which the call is refused, 0 if by none so far
-    pub refusal: u8,
+    // why the call is refused, if it is so far
+    pub refusal: Option<Refusal>,
     // how many records are scanned: none of a call that is refused before
     pub records: usize,
     // the low mark, in bytes
@@ -77,7 +138,7 @@ pub const NO_CHOICE: Choice = Choice {
     objects: [NO_OBJECT; 16],
 };
 
-// What is in the unused places of a table.
+// What is in the unused places of an array of records.
 pub const NO_RECORD: TargetRecord = TargetRecord {
     target: 0,
     free: 0,
@@ -85,157 +146,68 @@ pub const NO_RECORD: TargetRecord = TargetRecord {
 };
 
 // Do the targets of the table rise, and are they at most 65,534?
-fn targets_rise(t: Table) -> bool
-    requires { t.count ≤ 64 }
-    ensures { result ≡ rising 0 (table_of t) }
+fn targets_rise(table: &[TargetRecord]) -> bool
+    ensures { result ≡ rising 0 table.now }
 {
-    let n = t.count;
     let mut from: u32 = 0;
-    let mut i: usize = 0;
-    while i < n {
-        let target = t.records[i].target;
-        if target < from {
+    for r in table {
+        if r.target < from || 65534 < r.target {
             return false;
         }
-        if 65534 < target {
-            return false;
-        }
-        from = target + 1;
-        i += 1;
+        from = r.target + 1;
     }
     true
 }
 
 // Is the table good: does refusal 15 not apply to it?
-pub fn table_ok(t: Table) -> bool
-    ensures { result ≡ table_ok (table_of t) }
+pub fn table_ok(table: &[TargetRecord]) -> bool
+    ensures { result ≡ table_ok table.now }
 {
-    if 64 < t.count {
-        return false;
-    }
-    targets_rise(t)
-}
-
-// Are the free bytes of the record's target below the mark?
-fn free_below(mark: u64, r: TargetRecord) -> bool
-    ensures { result ≡ free_below mark r }
-{
-    r.free < mark
+    table.len() <= 64 && targets_rise(table)
 }
 
 // Is the target low?
-pub fn is_low(t: Table, mark: u64, target: u32) -> bool
-    requires { t.count ≤ 64 }
-    ensures { result ≡ is_low mark (table_of t) target }
+pub fn is_low(table: &[TargetRecord], mark: u64, target: u32) -> bool
+    ensures { result ≡ is_low mark table.now target }
 {
-    let n = t.count;
-    let mut i: usize = 0;
-    while i < n {
-        let r = t.records[i];
+    for r in table {
         if r.target == target {
-            return free_below(mark, r);
+            return r.free_below(mark);
         }
-        i += 1;
     }
     true
 }
 
-// Does an object record of the component lie on a low target?
-pub fn any_low(t: Table, mark: u64, c: Component) -> bool
-    requires { t.count ≤ 64 }
-    ensures { result ≡ any_low mark (table_of t) (records_of c) }
+// Does one of the objects lie on a low target?
+pub fn any_low(table: &[TargetRecord], mark: u64, objects: &[Object]) -> bool
+    ensures { result ≡ any_low mark table.now objects.now }
 {
-    let n = layout::fields::record_count(c);
-    let mut i: usize = 0;
-    while i < n {
-        let object = c.objects[i];
-        if is_low(t, mark, object.target) {
-            return true;
-        }
-        i += 1;
-    }
-    false
-}
-
-// Is the record's target usable?
-fn is_usable(mark: u64, r: TargetRecord) -> bool
-    ensures { result ≡ usable mark r }
-{
-    !free_below(mark, r) & (r.next < 18446744073709551615)
-}
-
-// How many are chosen from one record if `left` are still to be chosen: 1 if its target is usable, else 0.
-fn taken(mark: u64, left: usize, r: TargetRecord) -> usize
-    ensures { (result ≡ length (chosen (usable mark) left (r ∷ [])))
-        × (result ≤ left)
-        × (r.next + result ≤ 18446744073709551615) }
-{
-    if left == 0 {
-        return 0;
-    }
-    if is_usable(mark, r) {
-        return 1;
-    }
-    0
-}
-
-// The choice of at most s objects, with what one record adds to it.
-fn choose_next(choice: Choice, mark: u64, s: usize, r: TargetRecord) -> Choice
-    requires { (choice.count ≤ s) × (s ≤ 16) }
-    ensures { (result ≡ with_more choice (chosen (usable mark) (s - choice.count) (r ∷ []))) × (result.count ≤ s) }
-{
-    let k = choice.count;
-    if taken(mark, s - k, r) == 0 {
-        return choice;
-    }
-    let mut more = choice;
-    more.objects[k] = Object {
-        target: r.target,
-        number: r.next,
-    };
-    more.count = k + 1;
-    more
+    objects.iter().any(|o| is_low(table, mark, o.target))
 }
 
 // Chooses s targets; fewer if fewer are usable.
-pub fn choose(t: Table, mark: u64, s: usize) -> Choice
-    requires { (s ≤ 16) × (table_ok (table_of t) ≡ true) }
-    ensures { (result ≡ choice_of (chosen (usable mark) s (table_of t)))
+pub fn choose(table: &[TargetRecord], mark: u64, s: usize) -> Choice
+    requires { (s ≤ 16) × (table_ok table.now ≡ true) }
+    ensures { (result ≡ choice_of (chosen (usable mark) s table.now))
         × (result.count ≤ s)
         × ((get_or result.objects 0 no_object).target ≤ 65534) }
 {
-    let n = t.count;
-    let mut choice = Choice {
-        count: 0,
-        objects: [NO_OBJECT; 16],
-    };
-    let mut i: usize = 0;
-    while i < n {
-        choice = choose_next(choice, mark, s, t.records[i]);
-        i += 1;
+    let mut choice = NO_CHOICE;
+    for r in table {
+        choice = choice.after(s, r.is_usable(mark), *r);
     }
     choice
 }
 
-// The table with the next numbers of the first s usable targets raised by 1.
-pub fn raise(t: Table, mark: u64, s: usize) -> Table
-    requires { t.count ≤ 64 }
-    ensures { result ≡ with_records t (raised_first (usable mark) s (table_of t)) }
+// Raises the next numbers of the first s usable targets by 1.
+pub fn raise(table: &mut [TargetRecord], mark: u64, s: usize)
+    ensures { table.new ≡ raised_first (usable mark) s table.old }
 {
-    let n = t.count;
-    let mut table = t;
     let mut left = s;
-    let mut i: usize = 0;
-    while i < n {
-        let r = t.records[i];
-        let k = taken(mark, left, r);
-        table.records[i] = TargetRecord {
-            target: r.target,
-            free: r.free,
-            next: r.next + k as u64,
-        };
-        left -= k;
-        i += 1;
+    for r in table {
+        if 0 < left && r.is_usable(mark) {
+            *r = r.raised();
+            left -= 1;
+        }
     }
-    table
 }

@@ -1,60 +1,62 @@
--- `free_table::choose` meets its contract: the choice is the one from the first i records.
-use Prim.Native.Nat.{ℕ}
-use mathlib.Core.Path.{◌≡◌, sym, ap, ◌∙◌}
-use mathlib.Core.List.{List}
-use native.Mathlib.Omega.{arith}
-use lib.ListN.{length, get_or, take, length-take}
-use Rattle.lists.specs.Slices.{take_next}
+-- `free_table::choose` meets its contract: what is chosen from all the records is the choice so far and what is chosen from
+-- those from r on.
+use Rattle.std.specs.Prelude.{ℕ, ◌+◌, ◌-◌, ◌≤◌, ◌≡◌, List, [], get_or, drop}
+use Rattle.std.proofs.Common.{ap, sym, ◌∙◌, subst, arith, drop_of_length-le}
+use Rattle.std.proofs.Math.Nat.{sub-zero}
+use Rattle.std.proofs.lemmas.List.{drop_more}
 use Rattle.layout.specs.Records.{no_object, pack_objects}
 use Rattle.free_table.specs.declared.TargetRecord.{TargetRecord}
 use Rattle.free_table.specs.declared.Choice.{Choice}
-use Rattle.free_table.specs.Table.{no_record, table_of, usable}
-use Rattle.free_table.specs.Choosing.{chosen, choice_of}
-use Rattle.free_table.proofs.ChoosingLaws.{table_facts, chosen_nil, chosen_few, chosen_targets}
-use Rattle.free_table.proofs.Prefixes.{choose_more, first_packed}
+use Rattle.free_table.specs.Table.{no_record, usable}
+use Rattle.free_table.specs.Choosing.{chosen, choice_of, with_more}
+use Rattle.free_table.specs.Scanning.{choice_after}
+use Rattle.free_table.specs.ScanLaws.{choice_few}
+use Rattle.free_table.proofs.ChoosingLaws.{table_facts, chosen_nil, chosen_few, chosen_targets, more_chosen, more_none, choice_more, first_packed}
 use Rattle.free_table.proofs.choose.Goals as goal
 
-pub loop-i-init : goal.loop-i-init
+pub loop-r-init : goal.loop-r-init
 unfolding pack_objects
-loop-i-init c =
+loop-r-init c =
     let a = c.args in
-    let rs = a.t.records in
-    let h : length rs ≡ 65 = c.well_formed.0.1.1.1.0.1.0.1 in
-    let k = (table_facts (table_of a.t) c.requires.1).0 in (
-      omega (arith, length-take a.t.count rs),
-      omega arith,
-      omega arith,
-      sym (rw (chosen_nil (usable a.mark) a.s)),
-    )
+    let ok = usable a.mark in
+    record {
+      few = omega arith;
+      rest =
+          more_chosen [] (chosen ok (a.s - 0) a.table.now)
+          ∙ ap (λ (k : ℕ). choice_of (chosen ok k a.table.now)) (sub-zero a.s);
+    }
 
-pub loop-i-preserved : goal.loop-i-preserved
-loop-i-preserved c =
-    let p = c in
-    let a = p.args in
-    let rs = a.t.records in
-    let h : length rs ≡ 65 = p.well_formed.0.1.1.1.0.1.0.1 in
-    let r = get_or rs p.loop-i.i no_record in
-    let e = choose_more (usable a.mark) a.s (take p.loop-i.i rs) r p.loop-i.choice p.loop-i.invariant.3 in (
-      omega arith,
-      omega arith,
-      c.choose_next-choice.ensures.1,
-      c.choose_next-choice.ensures.0 ∙ e
-          ∙ ap (λ (qs : List TargetRecord). choice_of (chosen (usable a.mark) a.s qs))
-          (sym (take_next rs p.loop-i.i no_record (omega arith))),
-    )
+pub loop-r-preserved : goal.loop-r-preserved
+loop-r-preserved c =
+    let a = c.args in
+    let ok = usable a.mark in
+    let before = c.loop-r.choice in
+    let rest = drop (c.loop-r.r-index + 1) a.table.now in
+    let r = get_or a.table.now c.loop-r.r-index no_record in
+    let e : c.after-choice.result ≡ choice_after before a.s (ok r) r = c.after-choice.ensures ∙ rw c.is_usable.ensures in
+    record {
+      few = subst (λ (x : Choice). x.count ≤ a.s) (sym e) (choice_few before a.s (ok r) r c.loop-r.invariant.few);
+      rest =
+          ap (λ (x : Choice). with_more x (chosen ok (a.s - x.count) rest)) e
+          ∙ choice_more ok before a.s r rest c.loop-r.invariant.few
+          ∙ ap (λ (rs : List TargetRecord). with_more before (chosen ok (a.s - before.count) rs))
+          (sym (drop_more a.table.now c.loop-r.r-index no_record c.loop-r-test.true))
+          ∙ c.loop-r.invariant.rest;
+    }
 
 pub returns : goal.returns
 returns c =
-    let p = c in
-    let a = p.args in
-    let os = chosen (usable a.mark) a.s (table_of a.t) in
-    let i : p.loop-i.i ≡ a.t.count = omega arith in
-    let e : p.loop-i.choice ≡ choice_of os =
-    p.loop-i.invariant.3 ∙ ap (λ (j : ℕ). choice_of (chosen (usable a.mark) a.s (take j a.t.records))) i in
-    let k = chosen_few (usable a.mark) a.s (table_of a.t) in
-    let w = (table_facts (table_of a.t) p.requires.1).1 in
-    let t = chosen_targets (usable a.mark) 0 a.s (table_of a.t) w in (
+    let a = c.args in
+    let ok = usable a.mark in
+    let x = c.loop-r.choice in
+    let os = chosen ok a.s a.table.now in
+    let none : drop c.loop-r.r-index a.table.now ≡ [] = drop_of_length-le a.table.now c.loop-r-test.false in
+    let e : x ≡ choice_of os =
+    sym (more_none x) ∙ ap (with_more x) (sym (chosen_nil ok (a.s - x.count)))
+    ∙ ap (λ (rs : List TargetRecord). with_more x (chosen ok (a.s - x.count) rs)) (sym none) ∙ c.loop-r.invariant.rest in
+    let few = chosen_few ok a.s a.table.now in
+    let t = chosen_targets ok 0 a.s a.table.now (table_facts a.table.now c.requires.1).1 in (
       e,
-      p.loop-i.invariant.2,
-      rw (ap (λ (x : Choice). (get_or x.objects 0 no_object).target) e) (first_packed os 65534 (omega arith) t),
+      c.loop-r.invariant.few,
+      rw (ap (λ (y : Choice). (get_or y.objects 0 no_object).target) e) (first_packed os 65534 (omega arith) t),
     )

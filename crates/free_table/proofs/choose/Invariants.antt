@@ -1,13 +1,13 @@
--- `free_table::choose` meets its contract: the choice is the one from the first i records.
-use Prim.Native.Nat.{◌≤◌, ◌-◌}
-use mathlib.Core.Path.{◌≡◌}
-use lib.ListN.{take}
+-- `free_table::choose` meets its contract: what is chosen from all the records is the choice so far and what is chosen from
+-- those from r on.
+use Rattle.std.proofs.Common.{◌≡◌, ◌-◌, ◌≤◌, drop}
 use Rattle.free_table.specs.Table.{usable}
-use Rattle.free_table.specs.Choosing.{chosen, choice_of}
+use Rattle.free_table.specs.Choosing.{chosen, choice_of, with_more}
 use Rattle.free_table.proofs.choose.Given as goal
 
-abbrev pub invariant-loop-i : goal.invariant-loop-i
-invariant-loop-i l = (l.n ≤ 64) × (l.i ≤ l.n) × (l.choice.count ≤ l.s) × (l.choice ≡ choice_of (chosen (usable l.mark) l.s (take l.i l.t.records)))
-
-abbrev pub decreases-loop-i : goal.decreases-loop-i
-decreases-loop-i l = l.n - l.i
+abbrev pub invariant-loop-r : goal.invariant-loop-r
+invariant-loop-r l = record {
+  few : l.choice.count ≤ l.s;
+  rest : with_more l.choice (chosen (usable l.mark) (l.s - l.choice.count) (drop l.r-index l.table))
+      ≡ choice_of (chosen (usable l.mark) l.s l.table);
+}

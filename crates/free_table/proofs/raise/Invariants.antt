@@ -1,15 +1,11 @@
--- `free_table::raise` meets its contract: the first i records are those of the table after the choice.
-use Prim.Native.Nat.{◌≤◌, ◌-◌}
-use mathlib.Core.Path.{◌≡◌}
-use lib.ListN.{length, take}
-use Rattle.free_table.specs.Table.{with_records, usable}
-use Rattle.free_table.specs.Choosing.{chosen, raised_first}
+-- `free_table::raise` meets its contract: what is raised of all the records is the records before r, and what is raised of those
+-- from r on.
+use Rattle.std.proofs.Common.{◌≡◌, ◌++◌, take, drop}
+use Rattle.free_table.specs.Table.{usable}
+use Rattle.free_table.specs.Choosing.{raised_first}
 use Rattle.free_table.proofs.raise.Given as goal
 
-abbrev pub invariant-loop-i : goal.invariant-loop-i
-invariant-loop-i l = (l.i ≤ l.n)
-    × (l.left ≡ l.s - length (chosen (usable l.mark) l.s (take l.i l.t.records)))
-    × (l.table ≡ with_records l.t (raised_first (usable l.mark) l.s (take l.i l.t.records)))
-
-abbrev pub decreases-loop-i : goal.decreases-loop-i
-decreases-loop-i l = l.n - l.i
+abbrev pub invariant-loop-r : goal.invariant-loop-r
+invariant-loop-r l =
+    take l.r-index l.r-items ++ raised_first (usable l.mark) l.left (drop l.r-index l.r-items)
+    ≡ raised_first (usable l.mark) l.s l.fn.table

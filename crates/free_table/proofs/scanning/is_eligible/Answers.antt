@@ -2,6 +2,10 @@
 use Rattle.free_table.specs.Scanning.{eligible}
 use Rattle.free_table.proofs.scanning.is_eligible.Goals as goal
 
-pub returns : goal.returns
+pub returns-then-is_usable : goal.returns-then-is_usable
 unfolding eligible
-returns c = rw (c.is_usable.ensures, c.is_listed.ensures)
+returns-then-is_usable c = rw (← c.is_usable.ensures, c.if-is_usable.true, c.is_listed.ensures)
+
+pub returns-else-is_usable : goal.returns-else-is_usable
+unfolding eligible
+returns-else-is_usable c = rw (← c.is_usable.ensures, c.if-is_usable.false)

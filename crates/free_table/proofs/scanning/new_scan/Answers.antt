@@ -1,5 +1,5 @@
 -- `free_table::scanning::new_scan` meets its contract.
-use mathlib.Core.Path.{refl}
+use Rattle.std.specs.Prelude.{refl}
 use Rattle.layout.specs.Records.{pack_objects}
 use Rattle.free_table.specs.Scanning.{new_scan}
 use Rattle.free_table.proofs.scanning.new_scan.Goals as goal

@@ -4,4 +4,4 @@ use Rattle.free_table.proofs.scanning.refused_scan.Goals as goal
 
 pub returns : goal.returns
 unfolding refused_scan pack_targets
-returns c = rw c.new_scan-s.ensures
+returns c = rw c.new_scan.ensures

@@ -5,7 +5,11 @@ use Rattle.free_table.proofs.scanning.tell.Goals as goal
 pub returns : goal.returns
 unfolding told
 returns c =
-    let e = c.is_eligible-eligible in
-    let l = c.lows_after-low in
-    let b = c.free_below-below in
-    rw (c.choice_after-choice.ensures, e.ensures, l.ensures, b.ensures)
+    rw (
+      c.after.ensures,
+      c.is_eligible-may.ensures,
+      c.targets-2.ensures,
+      c.tell_lows.ensures,
+      c.targets.ensures,
+      c.free_below.ensures,
+    )

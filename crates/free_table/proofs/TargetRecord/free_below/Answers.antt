@@ -1,7 +1,7 @@
--- `free_table::free_below` meets its contract.
+-- `free_table::TargetRecord::free_below` meets its contract.
 use Rattle.std.specs.Prelude.{refl}
 use Rattle.free_table.specs.Table.{free_below}
-use Rattle.free_table.proofs.free_below.Goals as goal
+use Rattle.free_table.proofs.TargetRecord.free_below.Goals as goal
 
 pub returns : goal.returns
 unfolding free_below

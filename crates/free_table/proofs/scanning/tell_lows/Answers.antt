@@ -1,0 +1,22 @@
+-- `free_table::scanning::tell_lows` meets its contract: the flag of target i is set, or stays.
+use Rattle.std.specs.Prelude.{List, Bool, false, set, take}
+use Rattle.std.proofs.Common.{ap, sym, ◌∙◌, arith, eq-eqb, ne_eqb}
+use Rattle.std.proofs.lemmas.List.{set-get_or}
+use Rattle.free_table.specs.Scanning.{lows_after}
+use Rattle.free_table.specs.ScanLaws.{lows_next}
+use Rattle.free_table.proofs.scanning.tell_lows.Goals as goal
+use Rattle.free_table.proofs.scanning.tell_lows.Goals.{then-of-target, else-of-target}
+
+pub loop-i-preserved : goal.loop-i-preserved
+loop-i-preserved c =
+    let a = c.args in
+    let i = c.loop-i.i in
+    let flags = lows_after a.of a.below (take i a.targets.now) a.low.now in
+    let next = lows_next a.of a.below a.targets.now a.low.now i c.loop-i-test.true (omega arith) in
+    elim c.if-of-target.branch [
+      | then-of-target w ↦
+          w.low-is ∙ ap (λ (l : List Bool). set l i a.below) c.loop-i.invariant
+          ∙ rw (eq-eqb _ _ w.if-of-target.true) at next
+      | else-of-target w ↦
+          w.low-is ∙ c.loop-i.invariant ∙ sym (set-get_or flags i false) ∙ rw (ne_eqb _ _ w.if-of-target.false) at next
+    ]

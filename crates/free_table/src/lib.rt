@@ -145,6 +145,9 @@ pub const NO_RECORD: TargetRecord = TargetRecord {
     next: 0,
 };
 
+// A table has at most so many records.
+const MOST_RECORDS: usize = 64;
+
 // Do the targets of the table rise, and are they at most 65,534?
 fn targets_rise(table: &[TargetRecord]) -> bool
     ensures { result ≡ rising 0 table.now }
@@ -163,7 +166,7 @@ fn targets_rise(table: &[TargetRecord]) -> bool
 pub fn table_ok(table: &[TargetRecord]) -> bool
     ensures { result ≡ table_ok table.now }
 {
-    table.len() <= 64 && targets_rise(table)
+    table.len() <= MOST_RECORDS && targets_rise(table)
 }
 
 // Is the target low?

@@ -1,4 +1,2 @@
-pub mod Signs
-pub mod Writing
-pub mod DecimalLaws
 pub mod DecimalValue
+pub mod Digits

@@ -1,55 +1,27 @@
 // The listing of a layout as text.
 #![tactic(auto)]
 
-ghost use Rattle.std.specs.Prelude.{◌≡◌, ◌≤◌, length, take};
+ghost use Rattle.std.specs.Prelude.{◌≡◌, ◌≤◌, [], length};
 ghost use Rattle.std.proofs.lemmas.List.Edits.{sets};
-ghost use Rattle.listing.specs.Listing.{layout_text, listing_of};
+ghost use Rattle.listing.specs.Listing.{listing_of};
 
-use layout::Layout;
+use crate::text::Text;
 
 mod lines;
-mod words;
+mod text;
 
-// Writes the listing of a layout into the first bytes, and tells its length.
-fn put_layout(out: &mut [u8], l: Layout) -> usize
-    requires { (l.count ≤ 16) × (2448 ≤ length out.old) }
-    ensures value { (result ≡ length (layout_text l))
-        × (out.new ≡ sets out.old 0 (layout_text l)) }
-    ensures upper_bound { result ≤ 2448 }
-{
-    let place = lines::put_head(out, l.generation, l.count);
-    lines::put_components(out, place, l)
-}
-
-// Reads pages, each after its length, writes their listing into the first bytes of `out`, which has room for every
-// listing, and tells its length. The bytes after it stay.
-fn put_listing(input: &[u8], out: &mut [u8]) -> usize
-    requires { 2448 ≤ length out.old }
-    ensures value { (result ≡ length (listing_of input.now))
-        × (out.new ≡ sets out.old 0 (listing_of input.now)) }
-    ensures upper_bound { result ≤ 2448 }
+// Reads pages, each after its length, and gives their listing.
+fn listing_of(input: &[u8]) -> Text
+    ensures { result.bytes ≡ listing_of input.now }
 {
     let reading = collector::run::read_listed(input);
+    let mut text = Text::new();
     if reading.refusal != 0 {
-        return lines::put_refused(out, reading.refusal, reading.page);
+        lines::push_refused(&mut text, reading.refusal, reading.page);
+    } else {
+        lines::push_layout(&mut text, &reading.layout);
     }
-    let layout = reading.layout;
-    put_layout(out, layout)
-}
-
-// Copies the first n bytes of a text into the first bytes of `out`, as many of them as there is room for.
-fn put_first(out: &mut [u8], text: &[u8], n: usize)
-    requires { n ≤ length text.now }
-    ensures { out.new ≡ sets out.old 0 (take n text.now) }
-{
-    let mut i: usize = 0;
-    while i < n {
-        if out.len() <= i {
-            return;
-        }
-        out[i] = text[i];
-        i += 1;
-    }
+    text
 }
 
 // Reads pages, each after its length, writes their listing into the first bytes of `out`, and tells its length. The
@@ -63,11 +35,8 @@ pub fn list(input: &[u8], out: &mut [u8]) -> usize
         × (out.new ≡ sets out.old 0 (listing_of input.now)) }
     ensures upper_bound { result ≤ 2448 }
 {
-    if 2448 <= out.len() {
-        return put_listing(input, out);
-    }
-    let mut text = [0u8; 2448];
-    let n = put_listing(input, &mut text);
-    put_first(out, &text, n);
-    n
+    let text = listing_of(input);
+    let n = text.len().min(out.len());
+    out[..n].copy_from_slice(&text.as_bytes()[..n]);
+    text.len()
 }

@@ -1,5 +1,5 @@
 -- Runs of stores one after the other, as calls that write leave them, and the lengths of what the calls write.
-use Prim.Native.Nat.{ℕ, ◌+◌, ◌*◌}
+use Prim.Native.Nat.{ℕ, suc, ◌+◌, ◌*◌}
 use mathlib.Core.Path.{◌≡◌, refl}
 use mathlib.Core.List.{List, ◌∷◌}
 use mathlib.Core.Bool.{false}
@@ -67,7 +67,7 @@ head_stored s h flags f = rw f (simp (sets_append, length-append, length_words, 
 
 -- Once object record i is stored after i others, the records after it are left to store, 16 bytes further on.
 pub object_turn : (b b₁ : List ℕ) (at i place : ℕ) (o : Object) (os : List Object) → b₁ ≡ sets b place (object_bytes o)
-    → place ≡ at + 16 * i → sets b (at + 16 * i) (objects_bytes (o ∷ os)) ≡ sets b₁ (at + 16 * (i + 1)) (objects_bytes os)
+    → place ≡ at + 16 * i → sets b (at + 16 * i) (objects_bytes (o ∷ os)) ≡ sets b₁ (at + 16 * suc i) (objects_bytes os)
 object_turn b b₁ at i place o os p h =
-    let e : at + 16 * i + length (object_bytes o) ≡ at + 16 * (i + 1) = omega (arith, length_object o) in
+    let e : at + 16 * i + length (object_bytes o) ≡ at + 16 * suc i = omega (arith, length_object o) in
     rw (p, h, ← e) (sets_append b (at + 16 * i) (object_bytes o) (objects_bytes os))

@@ -2,7 +2,7 @@
 ghost use Rattle.std.specs.Prelude.{◌≡◌, ◌+◌, ◌*◌, ◌≤◌, min, length};
 ghost use Rattle.layout.specs.Records.{pack_objects};
 ghost use Rattle.page.specs.Form.{component_end};
-ghost use Rattle.page.specs.Content.{object_at, objects_at, component_at, head_of};
+ghost use Rattle.page.specs.Content.{object_at, objects_at, component_at};
 
 use crate::{Head, form};
 use layout::{Component, NO_OBJECT, Object};
@@ -49,18 +49,5 @@ pub fn component_at(s: &[u8], at: usize) -> Component
         end: bytes_le::u64_at(s, at + 24),
         extension_size: bytes_le::u64_at(s, at + 32),
         objects,
-    }
-}
-
-// What the head of the page says that the bytes begin with.
-pub fn head_of(s: &[u8]) -> Head
-    requires { 16 ≤ length s.now }
-    ensures { result ≡ head_of s.now }
-{
-    Head {
-        more: bytes_le::flags::first(bytes_le::u16_at(s, 2)),
-        number: bytes_le::u16_at(s, 4),
-        count: bytes_le::u16_at(s, 6),
-        generation: bytes_le::u32_at(s, 8),
     }
 }

@@ -2,6 +2,9 @@
 // the places of the components; what is at a place is then decoded with no further test.
 #![tactic(auto)]
 
+ghost use Rattle.std.specs.Prelude.{◌≡◌, ◌≤◌, length};
+ghost use Rattle.std.proofs.lemmas.List.Edits.{sets};
+
 pub mod decode;
 pub mod encode;
 pub mod form;
@@ -21,4 +24,33 @@ pub struct Head {
     pub number: u16,
     pub count: u16,
     pub generation: u32,
+}
+
+impl Head {
+    ghost use Rattle.page.specs.Content.{head_of};
+    ghost use Rattle.page.specs.Bytes.{head_bytes};
+
+    // What the head of the page says that the bytes begin with.
+    pub fn read(page: &[u8]) -> Head
+        requires { 16 ≤ length page.now }
+        ensures { result ≡ head_of page.now }
+    {
+        Head {
+            more: bytes_le::flags::first(bytes_le::u16_at(page, 2)),
+            number: bytes_le::u16_at(page, 4),
+            count: bytes_le::u16_at(page, 6),
+            generation: bytes_le::u32_at(page, 8),
+        }
+    }
+
+    // Writes the head of a page into the first 16 bytes.
+    pub fn write(self, buffer: &mut [u8])
+        requires { 16 ≤ length buffer.old }
+        ensures { buffer.new ≡ sets buffer.old 0 (head_bytes self) }
+    {
+        let flags = bytes_le::flags::word(self.more, false);
+        encode::put_words(buffer, 0, PAGE_MARK, flags, self.number, self.count);
+        bytes_le::put_u32(buffer, 8, self.generation);
+        bytes_le::put_u32(buffer, 12, 0);
+    }
 }

@@ -8,4 +8,4 @@ returns c =
     let zeros = target in let mark = zeros in
     let a = mark.args in
     rw (number.put_u64.ensures, target.put_u32.ensures, zeros.put_u16-2.ensures, mark.put_u16.ensures)
-    (object_stored a.buffer.now a.at a.o)
+    (object_stored a.buffer.now a.at a.object)

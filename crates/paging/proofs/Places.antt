@@ -1,32 +1,25 @@
--- What `write_page` computes from the array of sizes, in the terms of the definitions: the components of the page are
--- from `from` up to `to`, and its bytes are those of its head and theirs.
-use Prim.Native.Nat.{ℕ, zero, suc, ◌+◌, ◌-◌, ◌≤◌, ◌<◌}
-use mathlib.Core.Path.{◌≡◌, sym, ◌∙◌}
+-- What `write_page` asks of a layout, in the terms of the definitions: is there a page, and is the buffer long enough?
+use Prim.Native.Nat.{ℕ, ◌+◌, ◌≤◌, ◌<◌}
+use mathlib.Core.Path.{◌≡◌, sym, ap, ◌∙◌}
 use mathlib.Core.List.{List, [], ◌∷◌}
-use mathlib.Core.Bool.{true}
+use mathlib.Core.Bool.{Bool, true, false, not}
 use native.Mathlib.Omega.{arith}
-use native.Mathlib.Nat.{zero-add, suc-add}
-use lib.Dec.{ltb}
-use lib.ListN.{length, take, drop, replicate, length-take}
-use lib.Seq.{sets, slice, take-nil, take-take, drop-drop, length-slice}
-use borrow.Author.Tests.{lt-ltb, le-ltb, le-leb, lt-leb}
-use Rattle.lists.specs.Slices.{sets_append, take_map, take_sets_map}
+use lib.ListN.{length, take, drop}
+use lib.Seq.{sets}
+use borrow.Author.Tests.{le-leb, lt-leb}
+use Rattle.std.proofs.Common.{ne_eqb}
+use Rattle.std.specs.Prelude.{◌==◌}
+use Rattle.std.specs.List.{sum}
+use Rattle.lists.specs.Slices.{sets_append}
 use Rattle.layout.specs.declared.Component.{Component}
 use Rattle.layout.specs.declared.Layout.{Layout}
 use Rattle.layout.specs.Records.{view}
 use Rattle.layout.specs.Facts.{Valid}
 use Rattle.page.specs.declared.Head.{Head}
-use Rattle.page.specs.Bytes.{size_of, components_bytes, head_bytes, page_bytes}
+use Rattle.page.specs.Bytes.{components_bytes, head_bytes, page_bytes}
 use Rattle.page.specs.BytesLaws.{length_components_bytes, length_head}
-use Rattle.paging.specs.Paging.{in_page, sum, page_start, sizes_of, from_page, first_page, later_pages, is_some}
-use Rattle.paging.specs.Paging.{written_page, write_refusal}
-use Rattle.paging.specs.PagingLaws.{sizes_drop, total_sum, length_written, is_some_drop, number_few}
-
--- The first m elements from place f on are those from f up to f + m.
-take_slice : {A : Type 0} (m f : ℕ) (l : List A) → take m (drop f l) ≡ slice f (f + m) l
-take_slice m zero l = rw zero-add
-take_slice m (suc f) [] = rw (take-nil m, take-nil (suc f + m))
-take_slice m (suc f) (x ∷ l) = rw suc-add (take_slice m f l)
+use Rattle.paging.specs.Paging.{in_page, sizes_of, from_page, first_page, later_pages, is_some, written_page, write_refusal}
+use Rattle.paging.specs.PagingLaws.{total_sum, length_written, written_le, number_few}
 
 -- The head and after it the components: both calls have written the page.
 pub page_stored : (b b₁ b₂ : List ℕ) (h : Head) (cs : List Component) → b₁ ≡ sets b 0 (head_bytes h)
@@ -34,94 +27,64 @@ pub page_stored : (b b₁ b₂ : List ℕ) (h : Head) (cs : List Component) → 
 unfolding page_bytes
 page_stored b b₁ b₂ h cs p q = q ∙ rw (p, sets_append, length_head)
 
--- What is in page k, which is not refused by 4: the components from place `from` up to place `to`.
-pub record Page (l : Layout) (k from to : ℕ) (sizes : List ℕ) : Type 0 where
-  pub number : k < 16
-  pub places : to ≤ 16
-  pub components : length (components_bytes (slice from to l.components)) ≡ sum (slice from to sizes)
-  pub bytes : written_page l k
-      ≡ page_bytes record { more = ltb to l.count; number = k; count = to - from; generation = l.generation }
-      (slice from to l.components)
-  pub size : length (written_page l k) ≡ 16 + sum (slice from to sizes)
-  pub short : (room : ℕ) → room < 16 + sum (slice from to sizes) → write_refusal l k room ≡ 20
-  pub enough : (room : ℕ) → 16 + sum (slice from to sizes) ≤ room → write_refusal l k room ≡ 0
+-- Components are left if a list of them is not empty.
+pub some_left : (cs : List Component) (empty : Bool) → empty ≡ (length cs == 0) → not empty ≡ is_some cs
+some_left [] empty e = rw e
+some_left (c ∷ cs) empty e = rw (e, ne_eqb (length (c ∷ cs)) 0 (λ h. omega arith))
 
-module _ (l : Layout) (v : Valid l) (sizes : List ℕ)
-    (stored : sizes ≡ sets (replicate 16 0) 0 (sizes_of (view l))) where
-  -- The first places of the array have the sizes of the components.
-  taken : take l.count sizes ≡ sizes_of (view l)
-  taken =
-      let h : length (view l) ≤ 16 = omega (arith, v.whole, v.few) in
-      rw stored (rw v.whole at (take_sets_map size_of (replicate 16 0) (view l) h))
+-- What is in page k, which is not refused by 4: its components, and those of later pages.
+pub record Page (l : Layout) (k : ℕ) (components later : List Component) : Type 0 where
+  pub first : components ≡ first_page (from_page k (view l))
+  pub others : later ≡ later_pages (from_page k (view l))
+  pub some : is_some (from_page k (view l)) ≡ true
 
-  -- The sizes from one place up to another are those of the components there.
-  sizes_slice : (from to : ℕ) → to ≤ l.count → slice from to sizes ≡ sizes_of (slice from to l.components)
-  sizes_slice from to h =
-      let front : take to sizes ≡ sizes_of (take to l.components)
-      = sym (take-take to l.count sizes h)
-      ∙ rw (taken, ← take_map, take-take to l.count l.components h) in
-      rw (front, ← sizes_drop)
+pub page_at : (l : Layout) (k : ℕ) (all rest : List Component) (empty : Bool) (n : ℕ) (components later : List Component)
+    → all ≡ view l → rest ≡ from_page k all → empty ≡ (length rest == 0) → empty ≡ false → n ≡ in_page (sizes_of rest)
+    → components ≡ take n rest → later ≡ drop n rest → Page l k components later
+page_at l k all rest empty n components later a r e f m p q =
+    let w : rest ≡ from_page k (view l) = rw (r, a) in
+    record {
+      first = p ∙ rw (m, w);
+      others = q ∙ rw (m, w);
+      some = ap is_some (sym w) ∙ sym (some_left rest empty e) ∙ rw f;
+    }
 
-  module _ (k from : ℕ) (first : from ≡ page_start k (take l.count sizes)) where
-    -- The components from page k on.
-    from_page_lem : from_page k (view l) ≡ drop from (view l)
-    from_page_lem = rw (first, taken)
+-- Refusal 4: there is no page k if no component is left for it.
+pub no_page : (l : Layout) (k : ℕ) (all rest : List Component) (empty : Bool) (room : ℕ)
+    → all ≡ view l → rest ≡ from_page k all → empty ≡ (length rest == 0) → empty ≡ true → write_refusal l k room ≡ 4
+unfolding write_refusal
+no_page l k all rest empty room a r e f =
+    let w : rest ≡ from_page k (view l) = rw (r, a) in
+    let none : is_some (from_page k (view l)) ≡ false = ap is_some (sym w) ∙ sym (some_left rest empty e) ∙ rw f in
+    rw none
 
-    -- There is a page k if a component is left for it.
-    some : from < l.count → is_some (from_page k (view l)) ≡ true
-    some n = rw (from_page_lem, is_some_drop, v.whole) (lt-ltb from l.count n)
+module _ (l : Layout) (k : ℕ) (cs later : List Component) (p : Page l k cs later) where
+  -- Its bytes, by the sizes of its components; it has at most 512.
+  pub size_is : 16 + sum (sizes_of cs) ≡ length (written_page l k)
+  size_is = rw p.first (sym (length_written l k ∙ rw total_sum))
 
-    -- Refusal 4: there is no page k if no component is left for it.
-    pub no_page : (room : ℕ) → l.count ≤ from → write_refusal l k room ≡ 4
-    unfolding write_refusal
-    no_page room n = rw (from_page_lem, is_some_drop, v.whole, le-ltb from l.count n)
+  pub size_le : 16 + sum (sizes_of cs) ≤ 512
+  size_le = omega (arith, size_is, written_le l k)
 
-    module _ (to : ℕ) (last : to ≡ from + in_page (slice from l.count sizes)) (h : to ≤ l.count) where
-      -- The place after the components of page k.
-      in_page_lem : from + in_page (sizes_of (drop from (view l))) ≡ to
-      in_page_lem = sym (last ∙ rw (taken, sizes_drop))
+  -- Refusal 20 applies if the buffer is shorter, and none if it is not.
+  pub too_short : (room : ℕ) → room < 16 + sum (sizes_of cs) → write_refusal l k room ≡ 20
+  unfolding write_refusal
+  too_short room s = rw (p.some, lt-leb (length (written_page l k)) room (omega (arith, size_is)))
 
-      -- The components of page k.
-      page_is : first_page (from_page k (view l)) ≡ slice from to l.components
-      page_is = rw (from_page_lem, take_slice, in_page_lem, take-take to l.count l.components h)
+  pub long_enough : (room : ℕ) → 16 + sum (sizes_of cs) ≤ room → write_refusal l k room ≡ 0
+  unfolding write_refusal
+  long_enough room s = rw (p.some, le-leb (length (written_page l k)) room (omega (arith, size_is)))
 
-      -- The components after page k.
-      later_is : later_pages (from_page k (view l)) ≡ drop to (view l)
-      later_is = rw (from_page_lem, drop-drop, in_page_lem)
+  -- The buffer then has room for its components after the head.
+  pub room_after : 16 + length (components_bytes cs) ≡ 16 + sum (sizes_of cs)
+  room_after = rw (length_components_bytes, total_sum)
 
-      -- The bytes of page k.
-      written_is : written_page l k
-          ≡ page_bytes record { more = ltb to l.count; number = k; count = to - from; generation = l.generation }
-          (slice from to l.components)
-      unfolding written_page
-      written_is =
-          let n : length (slice from to l.components) ≡ to - from
-          = length-slice from to l.components
-          (omega (arith, v.whole, length-take l.count l.components)) in
-          rw (later_is, page_is, n, is_some_drop, v.whole)
+  -- Its number is below 16 if the layout is valid.
+  pub number_fits : Valid l → k < 16
+  number_fits v = number_few l k v p.some
 
-      -- The number of bytes of page k.
-      size_is : length (written_page l k) ≡ 16 + sum (slice from to sizes)
-      size_is = length_written l k ∙ rw (page_is, total_sum, sizes_slice from to h)
-
-      -- Refusal 20 applies if the buffer is shorter than page k, and none if it is not.
-      too_short : (room : ℕ) → from < l.count → room < 16 + sum (slice from to sizes) → write_refusal l k room ≡ 20
-      unfolding write_refusal
-      too_short room n s = rw (some n, lt-leb (length (written_page l k)) room (omega (arith, size_is)))
-
-      long_enough : (room : ℕ) → from < l.count → 16 + sum (slice from to sizes) ≤ room → write_refusal l k room ≡ 0
-      unfolding write_refusal
-      long_enough room n s = rw (some n, le-leb (length (written_page l k)) room (omega (arith, size_is)))
-
-      -- All of this, if a component is left for page k.
-      pub page_at : from < l.count → Page l k from to sizes
-      page_at n =
-          record {
-            number = number_few l k v (some n);
-            places = omega (arith, v.few);
-            components = rw (length_components_bytes, total_sum, sizes_slice from to h);
-            bytes = written_is;
-            size = size_is;
-            short = λ room. too_short room n;
-            enough = λ room. long_enough room n;
-          }
+  -- Its head and its components are the page.
+  pub page_is : (empty : Bool) → empty ≡ (length later == 0)
+      → page_bytes record { more = not empty; number = k; count = length cs; generation = l.generation } cs ≡ written_page l k
+  unfolding written_page
+  page_is empty e = rw (some_left later empty e, p.first, p.others)

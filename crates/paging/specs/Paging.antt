@@ -1,5 +1,5 @@
 -- Which components are in which page when a layout is written, and what a call that writes a page gives.
-use Rattle.std.specs.Prelude.{ℕ, zero, suc, ◌+◌, ◌-◌, List, [], ◌∷◌, map, Bool, true, false, cond, leb, length, take, drop}
+use Rattle.std.specs.Prelude.{ℕ, zero, suc, ◌+◌, ◌-◌, List, [], ◌∷◌, map, Result, Ok, Err, Bool, true, false, cond, leb, length, take, drop}
 use Rattle.std.proofs.lemmas.List.Edits.{sets}
 use Rattle.layout.specs.declared.Component.{Component}
 use Rattle.layout.specs.declared.Layout.{Layout}
@@ -7,19 +7,14 @@ use Rattle.layout.specs.Records.{view}
 use Rattle.layout.specs.Rules.{valid}
 use Rattle.page.specs.declared.Head.{Head}
 use Rattle.page.specs.Bytes.{size_of, page_bytes}
-use Rattle.paging.specs.declared.PageOut.{PageOut}
-use Rattle.paging.specs.declared.PageOut.TheVariants.{Written, Refused}
+use Rattle.refusals.specs.declared.Refusal.{Refusal}
+use Rattle.refusals.specs.Refusals.{number_of}
 
 -- How many components, told by their sizes, go into a page that has `room` bytes left: "The writer puts a component
 -- into the current page if it fits in 512 bytes, else it starts the next".
 abbrev pub fitting : ℕ → List ℕ → ℕ
 fitting room [] = 0
 fitting room (size ∷ sizes) = cond (leb size room) (suc (fitting (room - size) sizes)) 0
-
--- The sum of sizes.
-abbrev pub sum : List ℕ → ℕ
-sum [] = 0
-sum (size ∷ sizes) = size + sum sizes
 
 -- How many go into a page that has its head only: 496 of its 512 bytes are left.
 abbrev pub in_page : List ℕ → ℕ
@@ -73,15 +68,20 @@ write_refusal l k room = cond (is_some (from_page k (view l))) (cond (leb (lengt
 unfoldable pub out_refusal : Layout → ℕ → ℕ → ℕ
 out_refusal l k room = cond (valid l) (write_refusal l k room) 1
 
--- The answer under the number of a refusal, or under 0: the number, or how many bytes were written.
-unfoldable pub out_answer : ℕ → List ℕ → PageOut
-out_answer zero page = Written (length page)
-out_answer (suc n) page = Refused (suc n)
+-- What a call that writes a page says: how many bytes were written, or the number of the refusal.
+abbrev pub out_says : Result ℕ Refusal → Result ℕ ℕ
+out_says (Ok bytes) = Ok bytes
+out_says (Err e) = Err (number_of e)
 
--- The number that an answer means: that of the refusal, and 0 if the page was written.
-unfoldable pub out_number : PageOut → ℕ
-out_number (Written bytes) = 0
-out_number (Refused n) = n
+-- What it is to say under the number of a refusal, or under 0: the number, or how many bytes were written.
+unfoldable pub out_answer : ℕ → List ℕ → Result ℕ ℕ
+out_answer zero page = Ok (length page)
+out_answer (suc n) page = Err (suc n)
+
+-- The number that this means: that of the refusal, and 0 if the page was written.
+unfoldable pub out_number : Result ℕ ℕ → ℕ
+out_number (Ok bytes) = 0
+out_number (Err n) = n
 
 -- The buffer under the number of a refusal, or under 0: as it was, or with the page in its first bytes; "buffer bytes
 -- past it stay".

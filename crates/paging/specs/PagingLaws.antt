@@ -1,10 +1,11 @@
 -- Laws of paging: a page has at most 512 bytes and, where components are left, at least one of them; each page goes on
 -- where the one before it ends.
-use Rattle.std.specs.Prelude.{ℕ, zero, suc, ◌+◌, ◌-◌, ◌≤◌, ◌<◌, ◌≡◌, refl, List, [], ◌∷◌, ◌++◌, true, leb, ltb, length, take, drop}
-use Rattle.std.proofs.Common.{sym, ap, ◌∙◌, arith, add_assoc, zero-add, length-take, length-drop, take-append-drop, drop-drop, leb-true, ltb-true, le-leb, lt-ltb, le-ltb}
+use Rattle.std.specs.Prelude.{ℕ, zero, suc, ◌+◌, ◌-◌, ◌≤◌, ◌<◌, ◌≡◌, refl, List, [], ◌∷◌, ◌++◌, Result, Ok, Err, true, leb, ltb, length, sum, take, drop}
+use Rattle.std.proofs.Common.{sym, ap, ◌∙◌, arith, add_assoc, zero-add, length-take, length-drop, take-append-drop, drop-drop, drop_of_length-le, leb-true, ltb-true, le-leb, lt-ltb, le-ltb}
 use Rattle.std.proofs.Math.Dec.{leb-suc-suc}
 use Rattle.std.proofs.lemmas.List.{length-map}
 use Rattle.std.proofs.lemmas.List.Edits.{sets-eq}
+use Rattle.std.proofs.lemmas.List.Sums.{sum_by-cons}
 use Rattle.std.proofs.Math.Seq.{drop-append_seam}
 use Rattle.lists.specs.Bools.{bool_cases}
 use Rattle.lists.specs.Slices.{take_map, take_sets}
@@ -15,8 +16,10 @@ use Rattle.layout.specs.Facts.{Valid}
 use Rattle.page.specs.Bytes.{size_of}
 use Rattle.page.specs.BytesLaws.{total, length_page}
 use Rattle.page.specs.Same.{Few, fields_few}
-use Rattle.paging.specs.Paging.{fitting, in_page, sum, page_start, sizes_of, from_page, first_page, later_pages}
-use Rattle.paging.specs.Paging.{is_some, head_for, written_page, out_answer, out_number, out_buffer}
+use Rattle.paging.specs.Paging.{fitting, in_page, page_start, sizes_of, from_page, first_page, later_pages}
+use Rattle.paging.specs.Paging.{is_some, head_for, written_page, out_says, out_answer, out_number, out_buffer}
+use Rattle.refusals.specs.declared.Refusal.{Refusal}
+use Rattle.refusals.specs.Refusals.{number_in}
 
 -- Each size is at most 496: a page has room for the component after its head.
 abbrev pub Fit : List ℕ → Type 0
@@ -46,12 +49,16 @@ pub in_page_some : (sizes : List ℕ) → Fit sizes → 1 ≤ length sizes → 1
 in_page_some [] f h = absurd (omega arith)
 in_page_some (size ∷ sizes) f h = rw (le-leb size 496 f.0) (omega arith)
 
+-- The sum of sizes, by the first of them.
+pub sum_cons : (size : ℕ) (sizes : List ℕ) → sum (size ∷ sizes) ≡ size + sum sizes
+sum_cons size sizes = sum_by-cons (λ (n : ℕ). n) size sizes
+
 -- What goes into a page takes no more than the page's room.
 pub fitting_fits : (room : ℕ) (sizes : List ℕ) → sum (take (fitting room sizes) sizes) ≤ room
 fitting_fits room [] = omega arith
 fitting_fits room (size ∷ sizes) =
     bool_cases (leb size room)
-    (λ e. rw e (omega (arith, fitting_fits (room - size) sizes, leb-true size room e)))
+    (λ e. rw (e, sum_cons) (omega (arith, fitting_fits (room - size) sizes, leb-true size room e)))
     (λ e. rw e (omega arith))
 
 -- A page with its head has at most 512 bytes.
@@ -97,6 +104,14 @@ sizes_drop (suc n) (c ∷ cs) = sizes_drop n cs
 pub next_page : (k : ℕ) (cs : List Component) → from_page (suc k) cs ≡ later_pages (from_page k cs)
 next_page k cs = rw (page_start_next k (sizes_of cs), ← drop-drop, sizes_drop)
 
+-- If none is left from page j on, none is left from a later page on.
+pub none_later : (j k : ℕ) (cs : List Component) → j ≤ k → length (from_page j cs) ≡ 0 → from_page k cs ≡ from_page j cs
+none_later j k cs h e =
+    let before = page_start j (sizes_of cs) in
+    let mono = page_start_mono j k (sizes_of cs) h in
+    let n : length cs ≤ before = omega (arith, length-drop before cs) in
+    drop_of_length-le cs (omega arith) ∙ sym (drop_of_length-le cs n)
+
 -- The components of the first page and those after it are all.
 pub first_later : (cs : List Component) → first_page cs ++ later_pages cs ≡ cs
 first_later cs = take-append-drop (in_page (sizes_of cs)) cs
@@ -104,7 +119,7 @@ first_later cs = take-append-drop (in_page (sizes_of cs)) cs
 -- The bytes of components are the sum of their sizes.
 pub total_sum : (cs : List Component) → total cs ≡ sum (sizes_of cs)
 total_sum [] = refl
-total_sum (c ∷ cs) = rw (total_sum cs)
+total_sum (c ∷ cs) = rw (total_sum cs, sum_cons)
 
 -- A page with its head takes 16 bytes and those of its components.
 pub length_written : (l : Layout) (k : ℕ) → length (written_page l k) ≡ 16 + total (first_page (from_page k (view l)))
@@ -143,11 +158,17 @@ number_few l k v e =
     ltb-true (page_start k sizes) (length (view l)) (rw is_some_drop at e) in
     omega (arith, page_number_le k sizes (valid_fit l v) (omega (arith, v.whole)), v.whole, v.few)
 
--- The answer means the number of the refusal, or 0.
+-- What a call is to say means the number of the refusal, or 0.
 pub out_number_lem : (n : ℕ) (page : List ℕ) → out_number (out_answer n page) ≡ n
 unfolding out_number out_answer
 out_number_lem zero page = refl
 out_number_lem (suc n) page = refl
+
+-- What a call says means the number of its answer.
+pub out_says_number : (r : Result ℕ Refusal) → out_number (out_says r) ≡ number_in r
+unfolding out_number
+out_says_number (Ok bytes) = refl
+out_says_number (Err e) = refl
 
 -- If a page was written, the first bytes of the buffer are the page,
 pub written_first : (page buffer : List ℕ) → length page ≤ length buffer

@@ -7,8 +7,6 @@ use Rattle.layout.specs.Records.{view}
 use Rattle.layout.specs.Rules.{valid}
 use Rattle.page.specs.declared.Head.{Head}
 use Rattle.page.specs.Bytes.{size_of, page_bytes}
-use Rattle.refusals.specs.declared.Refusal.{Refusal}
-use Rattle.refusals.specs.Refusals.{number_of}
 
 -- How many components, told by their sizes, go into a page that has `room` bytes left: "The writer puts a component
 -- into the current page if it fits in 512 bytes, else it starts the next".
@@ -68,17 +66,13 @@ write_refusal l k room = cond (is_some (from_page k (view l))) (cond (leb (lengt
 unfoldable pub out_refusal : Layout → ℕ → ℕ → ℕ
 out_refusal l k room = cond (valid l) (write_refusal l k room) 1
 
--- What a call that writes a page says: how many bytes were written, or the number of the refusal.
-abbrev pub out_says : Result ℕ Refusal → Result ℕ ℕ
-out_says (Ok bytes) = Ok bytes
-out_says (Err e) = Err (number_of e)
-
--- What it is to say under the number of a refusal, or under 0: the number, or how many bytes were written.
+-- What a call that writes a page answers under the number of a refusal, or under 0: the number, or how many bytes were
+-- written.
 unfoldable pub out_answer : ℕ → List ℕ → Result ℕ ℕ
 out_answer zero page = Ok (length page)
 out_answer (suc n) page = Err (suc n)
 
--- The number that this means: that of the refusal, and 0 if the page was written.
+-- The number that an answer means: that of the refusal, and 0 if the page was written.
 unfoldable pub out_number : Result ℕ ℕ → ℕ
 out_number (Ok bytes) = 0
 out_number (Err n) = n

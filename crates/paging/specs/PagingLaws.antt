@@ -1,6 +1,6 @@
 -- Laws of paging: a page has at most 512 bytes and, where components are left, at least one of them; each page goes on
 -- where the one before it ends.
-use Rattle.std.specs.Prelude.{ℕ, zero, suc, ◌+◌, ◌-◌, ◌≤◌, ◌<◌, ◌≡◌, refl, List, [], ◌∷◌, ◌++◌, Result, Ok, Err, true, leb, ltb, length, sum, take, drop}
+use Rattle.std.specs.Prelude.{ℕ, zero, suc, ◌+◌, ◌-◌, ◌≤◌, ◌<◌, ◌≡◌, refl, List, [], ◌∷◌, ◌++◌, true, leb, ltb, length, sum, take, drop}
 use Rattle.std.proofs.Common.{sym, ap, ◌∙◌, arith, add_assoc, zero-add, length-take, length-drop, take-append-drop, drop-drop, drop_of_length-le, leb-true, ltb-true, le-leb, lt-ltb, le-ltb}
 use Rattle.std.proofs.Math.Dec.{leb-suc-suc}
 use Rattle.std.proofs.lemmas.List.{length-map}
@@ -17,9 +17,7 @@ use Rattle.page.specs.Bytes.{size_of}
 use Rattle.page.specs.BytesLaws.{total, length_page}
 use Rattle.page.specs.Same.{Few, fields_few}
 use Rattle.paging.specs.Paging.{fitting, in_page, page_start, sizes_of, from_page, first_page, later_pages}
-use Rattle.paging.specs.Paging.{is_some, head_for, written_page, out_says, out_answer, out_number, out_buffer}
-use Rattle.refusals.specs.declared.Refusal.{Refusal}
-use Rattle.refusals.specs.Refusals.{number_in}
+use Rattle.paging.specs.Paging.{is_some, head_for, written_page, out_answer, out_number, out_buffer}
 
 -- Each size is at most 496: a page has room for the component after its head.
 abbrev pub Fit : List ℕ → Type 0
@@ -158,17 +156,11 @@ number_few l k v e =
     ltb-true (page_start k sizes) (length (view l)) (rw is_some_drop at e) in
     omega (arith, page_number_le k sizes (valid_fit l v) (omega (arith, v.whole)), v.whole, v.few)
 
--- What a call is to say means the number of the refusal, or 0.
+-- The answer means the number of the refusal, or 0.
 pub out_number_lem : (n : ℕ) (page : List ℕ) → out_number (out_answer n page) ≡ n
 unfolding out_number out_answer
 out_number_lem zero page = refl
 out_number_lem (suc n) page = refl
-
--- What a call says means the number of its answer.
-pub out_says_number : (r : Result ℕ Refusal) → out_number (out_says r) ≡ number_in r
-unfolding out_number
-out_says_number (Ok bytes) = refl
-out_says_number (Err e) = refl
 
 -- If a page was written, the first bytes of the buffer are the page,
 pub written_first : (page buffer : List ℕ) → length page ≤ length buffer

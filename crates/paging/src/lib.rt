@@ -7,7 +7,8 @@ ghost use Rattle.layout.specs.Records.{view};
 ghost use Rattle.layout.specs.Rules.{valid};
 ghost use Rattle.page.specs.Bytes.{components_bytes};
 ghost use Rattle.paging.specs.Paging.{in_page, sizes_of, from_page, written_page};
-ghost use Rattle.paging.specs.Paging.{write_refusal, out_refusal, out_says, out_answer, out_buffer};
+ghost use Rattle.paging.specs.Paging.{write_refusal, out_refusal, out_answer, out_buffer};
+ghost use Rattle.refusals.specs.Numbered.{numbered};
 
 use layout::{Component, Layout};
 use page::{Head, encode};
@@ -68,7 +69,7 @@ fn put_components(buffer: &mut [u8], components: &[Component])
 pub fn write_page(l: Layout, number: u64, buffer: &mut [u8]) -> Result<usize, Refusal>
     requires { valid l ≡ true }
     ensures { let refusal = write_refusal l number (length buffer.old) in
-        (out_says result ≡ out_answer refusal (written_page l number))
+        (numbered result ≡ out_answer refusal (written_page l number))
         × (buffer.new ≡ out_buffer refusal (written_page l number) buffer.old) }
 {
     let rest = from_page(l.components(), number);
@@ -95,7 +96,7 @@ pub fn write_page(l: Layout, number: u64, buffer: &mut [u8]) -> Result<usize, Re
 // not valid.
 pub fn page_out(l: Layout, number: u64, buffer: &mut [u8]) -> Result<usize, Refusal>
     ensures { let refusal = out_refusal l number (length buffer.old) in
-        (out_says result ≡ out_answer refusal (written_page l number))
+        (numbered result ≡ out_answer refusal (written_page l number))
         × (buffer.new ≡ out_buffer refusal (written_page l number) buffer.old) }
 {
     if !layout::is_valid(l) {

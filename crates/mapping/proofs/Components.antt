@@ -1,19 +1,17 @@
--- The components of a valid layout, as code reads them from the array.
-use Prim.Native.Nat.{ℕ, ◌<◌}
-use mathlib.Core.Path.{◌≡◌}
-use mathlib.Core.Bool.{true}
-use lib.ListN.{get_or}
+-- The last component of a list.
+use Rattle.std.specs.Prelude.{ℕ, ◌+◌, ◌-◌, ◌≤◌, ◌≡◌, List, length, get_or, take}
+use Rattle.std.proofs.Common.{sym, ap, ◌∙◌, arith}
+use Rattle.std.proofs.lemmas.List.{map-append}
+use Rattle.std.proofs.Math.Seq.{take-length}
+use Rattle.lists.specs.Tests.{after_append}
+use Rattle.lists.specs.Slices.{take_next}
 use Rattle.layout.specs.declared.Component.{Component}
-use Rattle.layout.specs.declared.Layout.{Layout}
-use Rattle.layout.specs.Facts.{IsInit, Valid}
-use Rattle.layout.specs.FactLaws.{kind_init}
-use Rattle.layout.specs.ArrayLaws.{component_kind}
-use Rattle.layout.proofs.Unread.{unread}
+use Rattle.layout.specs.Holder.{last_end}
 
--- The component at place i of the array.
-abbrev pub read_at : Layout → ℕ → Component
-read_at l i = get_or l.components i unread
-
--- If its init flag is set, it is an init component.
-pub component_init : (l : Layout) → Valid l → (i : ℕ) → i < l.count → (read_at l i).init ≡ true → IsInit (read_at l i)
-component_init l v i h e = kind_init (component_kind l v unread i h) e
+-- The last end is that of the last component.
+pub last_end-get_or : (cs : List Component) (d : Component) → 1 ≤ length cs → last_end cs ≡ (get_or cs (length cs - 1) d).end
+last_end-get_or cs d h =
+    let n : length cs ≡ length cs - 1 + 1 = omega arith in
+    sym (ap last_end (take-length cs))
+    ∙ ap (λ (k : ℕ). last_end (take k cs)) n
+    ∙ rw (take_next cs (length cs - 1) d (omega arith), map-append, after_append)

@@ -3,14 +3,10 @@
 use Prim.Native.Nat.{ℕ, suc, ◌+◌, ◌-◌, ◌*◌, ◌/◌, ◌%◌, ◌≤◌, ◌<◌}
 use mathlib.Core.Path.{◌≡◌, refl, sym, ◌∙◌}
 use mathlib.Core.List.{List, ◌∷◌}
-use mathlib.Core.Bool.{cond}
 use native.Mathlib.Nat.{add-mul, mod-lt}
 use native.Mathlib.Omega.{arith}
-use lib.Dec.{eqb}
 use lib.ListN.{length}
 use lib.Seq.{sets}
-use borrow.Author.Tests.{eqb-true, eqb-false}
-use Rattle.lists.specs.Bools.{bool_cases}
 use Rattle.lists.specs.Slices.{sets_append}
 use Rattle.stripe.specs.Stripe.{unit_of, stripe_of, object_byte}
 use Rattle.stripe.proofs.Laws.{stripe_below, object_byte_le, unit_next_begin, next_on_next_stripe, next_on_first_stripe}
@@ -74,29 +70,19 @@ module _ {z s a left stripe row byte : ℕ} (hz : 0 < z) (hs : 0 < s) (k : Known
   stripe_less = omega (arith, k.stripe_is, stripe_below z s a hs)
 
   -- What is known of the first byte of the next unit: after the last stripe, and after any other.
-  after_last : {stripe' row' : ℕ} → stripe + 1 ≡ s → stripe' ≡ 0 → row' ≡ row + z
+  pub after_last : {stripe' row' : ℕ} → stripe + 1 ≡ s → stripe' ≡ 0 → row' ≡ row + z
       → Known z s (a + left) z stripe' row' row'
   after_last h t r =
       let n = next_on_first_stripe z s a left hz ends (omega (arith, h, k.stripe_is)) in
       known_first (unit_next_begin z a left hz ends) (omega (arith, t, n.0))
       (omega (arith, r, n.1, k.row_is, add-mul (unit_of z a / s) 1 z))
 
-  after_other : {stripe' row' : ℕ} → (stripe + 1 ≡ s → ⊥) → stripe' ≡ stripe + 1 → row' ≡ row
+  pub after_other : {stripe' row' : ℕ} → (stripe + 1 ≡ s → ⊥) → stripe' ≡ stripe + 1 → row' ≡ row
       → Known z s (a + left) z stripe' row' row'
   after_other h t r =
       let n = next_on_next_stripe z s a left hz ends (omega (arith, h, stripe_less, k.stripe_is)) in
       known_first (unit_next_begin z a left hz ends) (omega (arith, t, n.0, k.stripe_is))
       (omega (arith, r, n.1, k.row_is))
-
-  -- The same after any stripe, of what a turn computes.
-  pub known_next : {a' left' stripe' row' byte' : ℕ} → a' ≡ a + left → left' ≡ z
-      → stripe' ≡ cond (eqb (stripe + 1) s) 0 (stripe + 1) → row' ≡ cond (eqb (stripe + 1) s) (row + z) row
-      → byte' ≡ row' → Known z s a' left' stripe' row' byte'
-  known_next p l t r b =
-      rw (p, l, b)
-      (bool_cases (eqb (stripe + 1) s)
-      (λ e. after_last (eqb-true (stripe + 1) s e) (t ∙ rw e) (r ∙ rw e))
-      (λ e. after_other (eqb-false (stripe + 1) s e) (t ∙ rw e) (r ∙ rw e)))
 
   module _ {id from to at w : ℕ} {lent room : List ℕ} (v : Written id z s from to at lent a w room) where
     -- There is room for one more piece.

@@ -1,15 +1,15 @@
 -- Back, from a home to its file byte (1, 13, 14). What is in quotes is document 01's.
-use Rattle.std.specs.Prelude.{ℕ, ◌^◌, List, cond, ◌&&◌, leb, ltb, get_or}
+use Rattle.std.specs.Prelude.{ℕ, Result, Ok, Err, ◌^◌, List, cond, ◌&&◌, leb, ltb, get_or}
 use Rattle.lists.specs.Tests.{first_that}
 use Rattle.lists.specs.Counting.{elem}
+use Rattle.refusals.specs.declared.Refusal.{Refusal}
+use Rattle.refusals.specs.Refusals.{number_of}
 use Rattle.stripe.specs.Stripe.{file_byte}
 use Rattle.layout.specs.declared.Object.{Object}
 use Rattle.layout.specs.declared.Component.{Component}
 use Rattle.layout.specs.declared.Layout.{Layout}
 use Rattle.layout.specs.Records.{no_component, records_of, records_in, view}
 use Rattle.layout.specs.Distinct.{same_object}
-use Rattle.mapping.specs.declared.BackOut.{BackOut}
-use Rattle.mapping.specs.declared.BackOut.TheVariants.{At, Refused}
 use Rattle.mapping.specs.Answers.{Answer, gives, refuses, answer, checked}
 use Rattle.mapping.specs.Homes.{Home, in_object}
 
@@ -54,7 +54,7 @@ back_in h cs = answer (back_refusal h cs) (byte_of h cs)
 unfoldable pub back_of : Home → Layout → Answer ℕ
 back_of h l = answer (checked l (back_refusal h (view l))) (byte_of h (view l))
 
--- What the answer of `back` says, case by case: `At` the file byte, `Refused` the number.
-unfoldable pub back_says : BackOut → Answer ℕ
-back_says (At b) = gives b
-back_says (Refused n) = refuses n
+-- What the answer of `back` says, case by case: `Ok` the file byte, `Err` the number of the refusal.
+unfoldable pub back_says : Result ℕ Refusal → Answer ℕ
+back_says (Ok b) = gives b
+back_says (Err e) = refuses (number_of e)

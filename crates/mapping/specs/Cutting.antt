@@ -1,7 +1,9 @@
 -- A request cut into pieces (1, 9 to 12). What is in quotes is document 01's.
-use Rattle.std.specs.Prelude.{ℕ, zero, suc, ◌+◌, ◌-◌, ◌*◌, ◌/◌, ◌^◌, min, max, List, [], ◌∷◌, ◌++◌, Bool, not, cond, ◌&&◌, ◌||◌, ltb}
+use Rattle.std.specs.Prelude.{ℕ, Result, Ok, Err, zero, suc, ◌+◌, ◌-◌, ◌*◌, ◌/◌, ◌^◌, min, max, List, [], ◌∷◌, ◌++◌, Bool, not, cond, ◌&&◌, ◌||◌, ltb}
 use Rattle.std.proofs.lemmas.List.Edits.{sets}
 use Rattle.lists.specs.Tests.{any_of}
+use Rattle.refusals.specs.declared.Refusal.{Refusal}
+use Rattle.refusals.specs.Refusals.{number_of}
 use Rattle.stripe.specs.Stripe.{unit_of, stripe_of, object_byte}
 use Rattle.layout.specs.declared.Component.{Component}
 use Rattle.layout.specs.declared.Layout.{Layout}
@@ -9,8 +11,6 @@ use Rattle.layout.specs.Records.{view}
 use Rattle.layout.specs.Holder.{last_end}
 use Rattle.mapping.specs.declared.Span.{Span}
 use Rattle.mapping.specs.declared.Piece.{Piece}
-use Rattle.mapping.specs.declared.CutOut.{CutOut}
-use Rattle.mapping.specs.declared.CutOut.TheVariants.{Pieces, Refused}
 use Rattle.mapping.specs.Spans.{spans_of}
 use Rattle.mapping.specs.Answers.{Answer, gives, refuses, answer, checked}
 
@@ -121,7 +121,7 @@ unfoldable pub room_after : ℕ → List Piece → List ℕ → List ℕ
 room_after zero ps room = sets room 0 (all_numbers ps)
 room_after (suc n) ps room = room
 
--- What the answer of `cut` says, case by case: `Pieces` how many there are, `Refused` the number.
-unfoldable pub cut_says : CutOut → Answer ℕ
-cut_says (Pieces n) = gives n
-cut_says (Refused n) = refuses n
+-- What the answer of `cut` says, case by case: `Ok` how many pieces there are, `Err` the number of the refusal.
+unfoldable pub cut_says : Result ℕ Refusal → Answer ℕ
+cut_says (Ok n) = gives n
+cut_says (Err e) = refuses (number_of e)

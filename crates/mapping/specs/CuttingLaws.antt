@@ -5,7 +5,8 @@ use Rattle.std.specs.Prelude.{ℕ, zero, suc, ◌+◌, ◌-◌, ◌*◌, ◌^◌
 use Rattle.std.proofs.Common.{sym, ap, ◌∙◌, arith}
 use Rattle.std.proofs.Math.Bool.{true}
 use Rattle.std.proofs.lemmas.List.Edits.{sets}
-use borrow.Author.Tests.{lt-ltb, le-ltb}
+use borrow.Author.Tests.{lt-ltb, le-ltb, ltb-true}
+use Rattle.lists.specs.Bools.{bool_cases}
 use Rattle.lists.specs.Tests.{any_of}
 use Rattle.lists.specs.Slices.{sets_append}
 use Rattle.layout.specs.declared.Component.{Component}
@@ -14,7 +15,7 @@ use Rattle.layout.specs.FactLaws.{kind_init}
 use Rattle.mapping.specs.declared.Span.{Span}
 use Rattle.mapping.specs.declared.Piece.{Piece}
 use Rattle.mapping.specs.Answers.{gives, refuses, answer}
-use Rattle.mapping.specs.AnswerLaws.{answer_refused}
+use Rattle.mapping.specs.AnswerLaws.{gives_or_refuses, answer_gives}
 use Rattle.mapping.specs.Spans.{spans_of}
 use Rattle.mapping.specs.Cutting.{unit_count, part_begin, part_end, part_count, part_pieces, pieces_of, piece_count}
 use Rattle.mapping.specs.Cutting.{not_init_asked, too_many, refusal_by, all_numbers, room_after}
@@ -76,6 +77,14 @@ module _ (end a m n : ℕ) (xs : List Span) where
     unfolding refusal_by
     refused_10 t = rw (not_past, t)
 
+    -- It is met if the request has a byte and ends past the last component's end.
+    pub past_end : 0 < m → end < a + m → (ltb 0 m && ltb end (a + m)) ≡ true
+    past_end h k = rw (lt-ltb 0 m h, lt-ltb end (a + m) k)
+
+    pub within_end : (0 < m → a + m ≤ end) → (ltb 0 m && ltb end (a + m)) ≡ false
+    within_end h =
+        bool_cases (ltb 0 m) (λ t. rw (t, le-ltb end (a + m) (h (ltb-true 0 m t)))) (λ t. rw t)
+
     -- or it is not, and then that of 11 is,
     module _ (before : (ltb 0 m && ltb end (a + m)) ≡ false) where
       pub refused_11 : any_of (not_init_asked a (a + m)) xs ≡ true → 11 ≡ refusal_by end a m n xs
@@ -94,19 +103,19 @@ unfolding room_after
 room_refused zero ps room h = absurd (h refl)
 room_refused (suc n) ps room h = refl
 
--- The request of m bytes from offset a, under the number r of its refusal or 0.
-module _ (end a m : ℕ) (xs : List Span) (room : List ℕ) (r : ℕ) (e : r ≡ refusal_by end a m (length room) xs) where
+-- The request of m bytes from offset a, by the answer to it.
+module _ (end a m : ℕ) (xs : List Span) (room : List ℕ) where
+  -- The number of its refusal, or 0.
+  abbrev number : ℕ
+  number = refusal_by end a m (length room) xs
+
   -- A request that is refused.
-  pub cut_refused : (r ≡ 0 → ⊥)
-      → (refuses r ≡ answer (refusal_by end a m (length room) xs) (piece_count a (a + m) xs))
-      × (room ≡ room_after (refusal_by end a m (length room) xs) (pieces_of a (a + m) xs) room)
-  cut_refused h =
-      rw (← e) (answer_refused r (piece_count a (a + m) xs) h, room_refused r (pieces_of a (a + m) xs) room h)
+  pub cut_refused : (r : ℕ) → refuses r ≡ answer number (piece_count a (a + m) xs)
+      → room ≡ room_after number (pieces_of a (a + m) xs) room
+  cut_refused r e = room_refused number (pieces_of a (a + m) xs) room (λ h. gives_or_refuses _ r (sym (rw h at e)))
 
   -- A request that is accepted.
-  pub cut_accepted : r ≡ 0
-      → (gives (piece_count a (a + m) xs) ≡ answer (refusal_by end a m (length room) xs) (piece_count a (a + m) xs))
-      × (sets room 0 (all_numbers (pieces_of a (a + m) xs))
-      ≡ room_after (refusal_by end a m (length room) xs) (pieces_of a (a + m) xs) room)
+  pub cut_accepted : (k : ℕ) → gives k ≡ answer number (piece_count a (a + m) xs)
+      → (number ≡ 0) × (sets room 0 (all_numbers (pieces_of a (a + m) xs)) ≡ room_after number (pieces_of a (a + m) xs) room)
   unfolding room_after
-  cut_accepted h = rw (← e, h) (refl, refl)
+  cut_accepted k e = let z = (answer_gives number (piece_count a (a + m) xs) k (sym e)).0 in (z, rw z refl)

@@ -1,15 +1,15 @@
 -- Lookup (1, 10, 11). What is in quotes is document 01's.
-use Rattle.std.specs.Prelude.{ℕ, List, Bool, not, cond, ◌&&◌, leb}
+use Rattle.std.specs.Prelude.{ℕ, Result, Ok, Err, List, Bool, not, cond, ◌&&◌, leb}
 use Rattle.std.proofs.Math.Option.{Option, some}
 use Rattle.lists.specs.Tests.{any_of}
+use Rattle.refusals.specs.declared.Refusal.{Refusal}
+use Rattle.refusals.specs.Refusals.{number_of}
 use Rattle.layout.specs.declared.Component.{Component}
 use Rattle.layout.specs.declared.Layout.{Layout}
 use Rattle.layout.specs.Records.{view}
 use Rattle.layout.specs.Rows.{object_of}
 use Rattle.layout.specs.Holder.{holds, last_end}
 use Rattle.mapping.specs.declared.ObjectHome.{ObjectHome}
-use Rattle.mapping.specs.declared.LookupOut.{LookupOut}
-use Rattle.mapping.specs.declared.LookupOut.TheVariants.{Found, Refused}
 use Rattle.mapping.specs.Answers.{Answer, gives, refuses, answer, checked}
 use Rattle.mapping.specs.Homes.{Home, in_object, home_of}
 
@@ -34,7 +34,7 @@ lookup_of b l = answer (checked l (lookup_refusal b (view l))) (home_of b (view 
 abbrev pub home_says : ObjectHome → Home
 home_says h = in_object (object_of h.target h.number) h.byte
 
--- What the answer of `lookup` says, case by case: `Found` the home in an object, `Refused` the number.
-unfoldable pub lookup_says : LookupOut → Answer (Option Home)
-lookup_says (Found h) = gives (some (home_says h))
-lookup_says (Refused n) = refuses n
+-- What the answer of `lookup` says, case by case: `Ok` the home in an object, `Err` the number of the refusal.
+unfoldable pub lookup_says : Result ObjectHome Refusal → Answer (Option Home)
+lookup_says (Ok h) = gives (some (home_says h))
+lookup_says (Err e) = refuses (number_of e)

@@ -1,5 +1,5 @@
 // A request cut into pieces: what can refuse it is asked first, the pieces are written last.
-ghost use Rattle.std.specs.Prelude.{◌≡◌, true, ◌+◌, ◌*◌, ◌^◌, ◌≤◌, min, max, length, take};
+ghost use Rattle.std.specs.Prelude.{◌≡◌, true, ◌+◌, ◌*◌, ◌^◌, ◌≤◌, min, max, length};
 ghost use Rattle.std.proofs.lemmas.List.Edits.{sets};
 ghost use Rattle.lists.specs.Tests.{any_of};
 ghost use Rattle.layout.specs.Records.{view};
@@ -8,10 +8,14 @@ ghost use Rattle.mapping.specs.Answers.{answer};
 ghost use Rattle.mapping.specs.Cutting.{not_init_asked, part_count, part_pieces};
 ghost use Rattle.mapping.specs.Cutting.{piece_count, pieces_of, all_numbers, too_many, room_after};
 ghost use Rattle.mapping.specs.Cutting.{refusal_by, cut_refusal, cut_pieces, cut_in, cut_says};
-ghost use Rattle.mapping.specs.Spans.{Cuttable, AllCuttable};
+ghost use Rattle.mapping.specs.Spans.{Cuttable, AreCuttable};
 
-use crate::{CutOut, Span, units};
+use crate::{Span, units};
 use layout::Layout;
+use refusals::Refusal;
+
+// The most pieces that a request is cut into.
+const MOST_PIECES: u64 = 256;
 
 const NO_SPAN: Span = Span {
     init: false,
@@ -22,47 +26,18 @@ const NO_SPAN: Span = Span {
     stripe_size: 0,
 };
 
-// The lower of two numbers.
-fn lower_of(a: u64, b: u64) -> u64
-    ensures { result ≡ min a b }
-{
-    if a < b {
-        return a;
-    }
-    b
-}
-
-// The higher of two numbers.
-fn higher_of(a: u64, b: u64) -> u64
-    ensures { result ≡ max a b }
-{
-    if a < b {
-        return b;
-    }
-    a
-}
-
 // Does a byte of the request from `offset` to `stop` lie in the component, and is that not init?
 pub fn not_init_asked(c: Span, offset: u64, stop: u64) -> bool
     ensures { result ≡ not_init_asked offset stop c }
 {
-    !c.init & (higher_of(offset, c.begin) < lower_of(stop, c.end))
+    !c.init && offset.max(c.begin) < stop.min(c.end)
 }
 
-// Does a byte of the request from `offset` to `stop` lie in one of n components that is not init?
-fn any_not_init_asked(spans: [Span; 16], n: usize, offset: u64, stop: u64) -> bool
-    requires { n ≤ 16 }
-    ensures { result ≡ any_of (not_init_asked offset stop) (take n spans) }
+// Does a byte of the request from `offset` to `stop` lie in one of the components that is not init?
+fn any_not_init_asked(spans: &[Span], offset: u64, stop: u64) -> bool
+    ensures { result ≡ any_of (not_init_asked offset stop) spans.now }
 {
-    let mut i: usize = 0;
-    while i < n {
-        let c = spans[i];
-        if not_init_asked(c, offset, stop) {
-            return true;
-        }
-        i += 1;
-    }
-    false
+    spans.iter().any(|span| not_init_asked(*span, offset, stop))
 }
 
 // The number of pieces of the request from `offset` to `stop` in one component, by arithmetic.
@@ -73,24 +48,17 @@ pub fn part_count(c: Span, offset: u64, stop: u64) -> u64
     if !c.init {
         return 0;
     }
-    units::unit_count(
-        c.stripe_size,
-        higher_of(offset, c.begin),
-        lower_of(stop, c.end),
-    )
+    units::unit_count(c.stripe_size, offset.max(c.begin), stop.min(c.end))
 }
 
-// The number of pieces of the request from `offset` to `stop` in n components.
-fn piece_count(spans: [Span; 16], n: usize, offset: u64, stop: u64) -> u64
-    requires { (n ≤ 16) × AllCuttable (take n spans) }
-    ensures { result ≡ piece_count offset stop (take n spans) }
+// The number of pieces of the request from `offset` to `stop` in the components.
+fn piece_count(spans: &[Span], offset: u64, stop: u64) -> u64
+    requires { AreCuttable spans.now }
+    ensures { result ≡ piece_count offset stop spans.now }
 {
     let mut pieces: u64 = 0;
-    let mut i: usize = 0;
-    while i < n {
-        let c = spans[i];
-        pieces = pieces + part_count(c, offset, stop);
-        i += 1;
+    for span in spans {
+        pieces += part_count(*span, offset, stop);
     }
     pieces
 }
@@ -99,31 +67,34 @@ fn piece_count(spans: [Span; 16], n: usize, offset: u64, stop: u64) -> u64
 pub fn too_many(numbers: usize, pieces: u64) -> bool
     ensures { result ≡ too_many numbers pieces }
 {
-    (256 < pieces) | (((numbers / 5) as u64) < pieces)
+    pieces > MOST_PIECES || pieces > (numbers / 5) as u64
 }
 
-// The number of the refusal of the request of `bytes` bytes from `offset` into so many lent numbers, by n components of
-// which the last ends at `end`: 9, 10, 11 or 12, or 0.
-fn refusal_by(spans: [Span; 16], n: usize, end: u64, offset: u64, bytes: u64, numbers: usize) -> u8
-    requires { (n ≤ 16) × AllCuttable (take n spans) }
-    ensures { result ≡ refusal_by end offset bytes numbers (take n spans) }
+// The number of pieces of the request of `bytes` bytes from `offset` into so many lent numbers, by components of which
+// the last ends at `end`. Refused by 9, 10, 11 or 12.
+fn count_pieces(
+    spans: &[Span],
+    end: u64,
+    offset: u64,
+    bytes: u64,
+    numbers: usize,
+) -> Result<u64, Refusal>
+    requires { AreCuttable spans.now }
+    ensures { cut_says result
+        ≡ answer (refusal_by end offset bytes numbers spans.now) (piece_count offset (offset + bytes) spans.now) }
 {
-    if u64::MAX - offset < bytes {
-        return 9;
+    let stop = offset.checked_add(bytes).ok_or(Refusal::RequestEnd)?;
+    if 0 < bytes && end < stop {
+        return Err(Refusal::PastEnd);
     }
-    let stop = offset + bytes;
-    let past_end = (0 < bytes) & (end < stop);
-    let not_init = any_not_init_asked(spans, n, offset, stop);
-    if past_end {
-        return 10;
+    if any_not_init_asked(spans, offset, stop) {
+        return Err(Refusal::NotInit);
     }
-    if not_init {
-        return 11;
+    let pieces = piece_count(spans, offset, stop);
+    if too_many(numbers, pieces) {
+        return Err(Refusal::Pieces);
     }
-    if too_many(numbers, piece_count(spans, n, offset, stop)) {
-        return 12;
-    }
-    0
+    Ok(pieces)
 }
 
 // Writes the pieces of the request from `offset` to `stop` in one component from place `at` on, and gives the place
@@ -136,81 +107,59 @@ pub fn put_part(room: &mut [u64], at: usize, c: Span, offset: u64, stop: u64) ->
     if !c.init {
         return at;
     }
-    let from = higher_of(offset, c.begin);
-    let to = lower_of(stop, c.end);
+    let from = offset.max(c.begin);
+    let to = stop.min(c.end);
     if to <= from {
         return at;
     }
     units::put_units(room, at, c.id, c.stripe_size, c.stripe_count, from, to)
 }
 
-// Writes the pieces of the request from `offset` to `stop` in n components into the first of the lent numbers, and
-// gives how many numbers they are.
-fn put_pieces(room: &mut [u64], spans: [Span; 16], n: usize, offset: u64, stop: u64) -> usize
-    requires { (n ≤ 16)
-        × AllCuttable (take n spans)
-        × (5 * piece_count offset stop (take n spans) ≤ length room.old) }
-    ensures { (room.new ≡ sets room.old 0 (all_numbers (pieces_of offset stop (take n spans))))
-        × (result ≡ 5 * piece_count offset stop (take n spans)) }
+// Writes the pieces of the request from `offset` to `stop` in the components into the first of the lent numbers.
+fn put_pieces(room: &mut [u64], spans: &[Span], offset: u64, stop: u64)
+    requires { AreCuttable spans.now × (5 * piece_count offset stop spans.now ≤ length room.old) }
+    ensures { room.new ≡ sets room.old 0 (all_numbers (pieces_of offset stop spans.now)) }
 {
     let mut at: usize = 0;
-    let mut i: usize = 0;
-    while i < n {
-        let c = spans[i];
-        at = put_part(room, at, c, offset, stop);
-        i += 1;
+    for span in spans {
+        at = put_part(room, at, *span, offset, stop);
     }
-    at
 }
 
-// Cuts a request by n components of which the last ends at `end`; refused by 9, 10, 11 or 12: all lent numbers then
-// stay.
-pub fn cut_spans(
-    spans: [Span; 16],
-    n: usize,
+// Cuts a request by components of which the last ends at `end`, and gives the number of pieces; refused by 9, 10, 11 or
+// 12: all lent numbers then stay.
+fn cut_spans(
+    spans: &[Span],
     end: u64,
     offset: u64,
     bytes: u64,
     room: &mut [u64],
-) -> CutOut
-    requires { (n ≤ 16) × AllCuttable (take n spans) }
+) -> Result<u64, Refusal>
+    requires { AreCuttable spans.now }
     ensures { let lent = room.old in
-        let refusal = refusal_by end offset bytes (length lent) (take n spans) in
-        (cut_says result ≡ answer refusal (piece_count offset (offset + bytes) (take n spans)))
-        × (room.new ≡ room_after refusal (pieces_of offset (offset + bytes) (take n spans)) lent) }
+        let refusal = refusal_by end offset bytes (length lent) spans.now in
+        (cut_says result ≡ answer refusal (piece_count offset (offset + bytes) spans.now))
+        × (room.new ≡ room_after refusal (pieces_of offset (offset + bytes) spans.now) lent) }
 {
-    let refusal = refusal_by(spans, n, end, offset, bytes, room.len());
-    if refusal != 0 {
-        return CutOut::Refused(refusal);
-    }
-    let written = put_pieces(room, spans, n, offset, offset + bytes);
-    CutOut::Pieces((written / 5) as u64)
+    let pieces = count_pieces(spans, end, offset, bytes, room.len())?;
+    put_pieces(room, spans, offset, offset + bytes);
+    Ok(pieces)
 }
 
 // Cuts a request by a layout that is known to be valid. The components are taken out of the layout as cutting sees
 // them, once.
-pub fn cut_valid(l: Layout, offset: u64, bytes: u64, room: &mut [u64]) -> CutOut
+pub fn cut_valid(l: Layout, offset: u64, bytes: u64, room: &mut [u64]) -> Result<u64, Refusal>
     requires { valid l ≡ true }
     ensures { let lent = room.old in
         (cut_says result ≡ cut_in offset bytes (length lent) (view l))
         × (room.new
         ≡ room_after (cut_refusal offset bytes (length lent) (view l)) (cut_pieces offset bytes (view l)) lent) }
 {
-    let n = l.count;
+    let components = l.components();
     let mut spans = [NO_SPAN; 16];
-    let mut i: usize = 0;
-    while i < n {
-        let c = l.components[i];
-        spans[i] = Span {
-            init: c.init,
-            id: c.id,
-            begin: c.begin,
-            end: c.end,
-            stripe_count: c.stripe_count,
-            stripe_size: c.stripe_size,
-        };
-        i += 1;
+    for (i, c) in components.iter().enumerate() {
+        spans[i] = Span::from(*c);
     }
-    let last = l.components[n - 1];
-    cut_spans(spans, n, last.end, offset, bytes, room)
+    let n = components.len();
+    cut_spans(&spans[..n], components[n - 1].end, offset, bytes, room)
 }

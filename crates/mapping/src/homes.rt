@@ -6,8 +6,9 @@ ghost use Rattle.layout.specs.Facts.{IsInit};
 ghost use Rattle.mapping.specs.Lookup.{home_says, lookup_says, lookup_in};
 ghost use Rattle.mapping.specs.Homes.{home_in};
 
-use crate::{LookupOut, ObjectHome};
+use crate::ObjectHome;
 use layout::{Component, Layout};
+use refusals::Refusal;
 
 // The home of a file byte by a component that is init; the component's extent is not looked at.
 pub fn home_in(c: Component, offset: u64) -> ObjectHome
@@ -26,17 +27,14 @@ pub fn home_in(c: Component, offset: u64) -> ObjectHome
 
 // The home of a file byte, in a layout that is known to be valid. Refused by 10 if the byte lies at or past the last
 // component's end, and by 11 if it lies in a component that is not init.
-pub fn lookup_valid(l: Layout, offset: u64) -> LookupOut
+pub fn lookup_valid(l: Layout, offset: u64) -> Result<ObjectHome, Refusal>
     requires { valid l ≡ true }
     ensures { lookup_says result ≡ lookup_in offset (view l) }
 {
-    let i = layout::holder(l, offset);
-    if l.count <= i {
-        return LookupOut::Refused(10);
-    }
-    let c = l.components[i];
+    let i = layout::holder(l, offset).ok_or(Refusal::PastEnd)?;
+    let c = l.components()[i];
     if !c.init {
-        return LookupOut::Refused(11);
+        return Err(Refusal::NotInit);
     }
-    LookupOut::Found(home_in(c, offset))
+    Ok(home_in(c, offset))
 }

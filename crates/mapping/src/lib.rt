@@ -11,7 +11,8 @@ ghost use Rattle.mapping.specs.Lookup.{lookup_says, lookup_of};
 ghost use Rattle.mapping.specs.Back.{back_says, back_of};
 ghost use Rattle.mapping.specs.Cutting.{cut_says, cut_of, cut_refusal, cut_pieces, room_after};
 
-use layout::Layout;
+use layout::{Component, Layout, Object};
+use refusals::Refusal;
 
 pub mod cutting;
 pub mod homes;
@@ -26,33 +27,6 @@ pub struct ObjectHome {
     pub byte: u64,
 }
 
-// What a lookup answers.
-#[derive(Clone, Copy)]
-pub enum LookupOut {
-    // The byte has this home.
-    Found(ObjectHome),
-    // Refused, by this number.
-    Refused(u8),
-}
-
-// What the way back answers.
-#[derive(Clone, Copy)]
-pub enum BackOut {
-    // The file byte whose home it is.
-    At(u64),
-    // Refused, by this number.
-    Refused(u8),
-}
-
-// What a call answers that cuts a request.
-#[derive(Clone, Copy)]
-pub enum CutOut {
-    // The number of pieces, which are in the first lent numbers, five numbers a piece.
-    Pieces(u64),
-    // Refused, by this number.
-    Refused(u8),
-}
-
 // A component as cutting sees it: its init flag, its id, its extent [begin, end) and its striping.
 #[derive(Clone, Copy)]
 pub struct Span {
@@ -62,6 +36,23 @@ pub struct Span {
     pub end: u64,
     pub stripe_count: u16,
     pub stripe_size: u32,
+}
+
+impl From<Component> for Span {
+    ghost use Rattle.mapping.specs.Spans.{span_of};
+
+    ghost from_gives = { λ c s. s ≡ span_of c };
+
+    fn from(c: Component) -> Span {
+        Span {
+            init: c.init,
+            id: c.id,
+            begin: c.begin,
+            end: c.end,
+            stripe_count: c.stripe_count,
+            stripe_size: c.stripe_size,
+        }
+    }
 }
 
 // A piece of a request: its first file byte and its length, the id of its component, the stripe, counted from 0, and
@@ -77,24 +68,24 @@ pub struct Piece {
 
 // The home of a file byte. Refused by 1 if the layout is not valid, 10 if the byte lies at or past the last
 // component's end, 11 if it lies in a component that is not init.
-pub fn lookup(l: Layout, offset: u64) -> LookupOut
+pub fn lookup(l: Layout, offset: u64) -> Result<ObjectHome, Refusal>
     ensures { lookup_says result ≡ lookup_of offset l }
 {
     if !layout::is_valid(l) {
-        return LookupOut::Refused(1);
+        return Err(Refusal::NotValid);
     }
     homes::lookup_valid(l, offset)
 }
 
 // The file byte whose home is a byte of the object with this target and number. Refused by 1 if the layout is not
 // valid, 13 if the object is not in it, 14 if that byte of the object is no byte of its component.
-pub fn back(l: Layout, target: u32, number: u64, byte: u64) -> BackOut
+pub fn back(l: Layout, target: u32, number: u64, byte: u64) -> Result<u64, Refusal>
     ensures { back_says result ≡ back_of (in_object (object_of target number) byte) l }
 {
     if !layout::is_valid(l) {
-        return BackOut::Refused(1);
+        return Err(Refusal::NotValid);
     }
-    objects::back_valid(l, target, number, byte)
+    objects::back_valid(l, Object { target, number }, byte)
 }
 
 // Cuts the request of `bytes` bytes from `offset` at every component border and at every multiple of the component's
@@ -102,7 +93,7 @@ pub fn back(l: Layout, target: u32, number: u64, byte: u64) -> BackOut
 // Refused by 1 if the layout is not valid, 9 if offset + bytes is above 2^64 - 1, 10 if a byte asked for lies
 // at or past the last component's end, 11 if one lies in a component that is not init, 12 if there are more
 // pieces than 256 or than a fifth of the lent numbers: all of them then stay.
-pub fn cut(l: Layout, offset: u64, bytes: u64, room: &mut [u64]) -> CutOut
+pub fn cut(l: Layout, offset: u64, bytes: u64, room: &mut [u64]) -> Result<u64, Refusal>
     ensures { let lent = room.old in
         (cut_says result ≡ cut_of offset bytes (length lent) l)
         × (room.new
@@ -112,7 +103,7 @@ pub fn cut(l: Layout, offset: u64, bytes: u64, room: &mut [u64]) -> CutOut
         lent) }
 {
     if !layout::is_valid(l) {
-        return CutOut::Refused(1);
+        return Err(Refusal::NotValid);
     }
     cutting::cut_valid(l, offset, bytes, room)
 }

@@ -28,34 +28,7 @@ fn put_piece(room: &mut [u64], at: usize, p: Piece)
     requires { at + 5 ≤ length room.old }
     ensures { room.new ≡ sets room.old at (piece_numbers p) }
 {
-    room[at] = p.offset;
-    room[at + 1] = p.length;
-    room[at + 2] = p.id;
-    room[at + 3] = p.stripe;
-    room[at + 4] = p.byte;
-}
-
-// The stripe of the next unit: the next one, and after the last the first.
-fn next_stripe(stripe: u64, s: u64) -> u64
-    requires { stripe < s }
-    ensures { result ≡ cond (eqb (stripe + 1) s) 0 (stripe + 1) }
-{
-    if stripe + 1 == s {
-        return 0;
-    }
-    stripe + 1
-}
-
-// The object byte at which the next unit begins: where the unit began that has just been cut or, after the last stripe,
-// a stripe size further on.
-fn next_row(row: u64, stripe: u64, s: u64, size: u64) -> u64
-    requires { (stripe < s) × (row + size < 2 ^ 64) }
-    ensures { result ≡ cond (eqb (stripe + 1) s) (row + size) row }
-{
-    if stripe + 1 == s {
-        return row + size;
-    }
-    row
+    room[at..at + 5].copy_from_slice(&[p.offset, p.length, p.id, p.stripe, p.byte]);
 }
 
 // Writes the pieces of the bytes from `from` to `to`, which is not among them, from place `at` on, and gives the place
@@ -97,23 +70,26 @@ pub fn put_units(room: &mut [u64], at: usize, id: u16, z: u32, s: u16, from: u64
             offset: a,
             length: left,
             id: id as u64,
-            stripe: stripe,
-            byte: byte,
+            stripe,
+            byte,
         };
         put_piece(room, w, piece);
         w += 5;
         a += left;
         left = size;
-        row = next_row(row, stripe, count, size);
-        stripe = next_stripe(stripe, count);
+        stripe += 1;
+        if stripe == count {
+            stripe = 0;
+            row += size;
+        }
         byte = row;
     }
     let last = Piece {
         offset: a,
         length: to - a,
         id: id as u64,
-        stripe: stripe,
-        byte: byte,
+        stripe,
+        byte,
     };
     put_piece(room, w, last);
     w + 5

@@ -1,46 +1,40 @@
 -- `mapping::cutting::cut_spans` meets its contract: if nothing refuses the request, its pieces have room.
-use Prim.Native.Nat.{◌+◌, ◌/◌}
-use mathlib.Core.Path.{◌≡◌, sym, ap, ◌∙◌}
-use native.Mathlib.Omega.{arith}
-use lib.ListN.{length, take}
-use Rattle.mapping.specs.Answers.{gives}
-use Rattle.mapping.specs.Cutting.{piece_count, cut_says}
+use borrow.Author.Rules.{rules}
+use Rattle.std.proofs.Common.{◌≡◌, ◌∙◌, Err, length, arith}
+use Rattle.refusals.specs.Refusals.{number_of}
+use Rattle.mapping.specs.Cutting.{cut_says}
 use Rattle.mapping.specs.CuttingLaws.{cut_refused, cut_accepted}
-use Rattle.mapping.specs.Acceptance.{Accepted, accepted_facts}
+use Rattle.mapping.specs.Acceptance.{accepted_facts}
 use Rattle.mapping.proofs.cutting.cut_spans.Goals as goal
 
-pub returns-then-refusal-ne0 : goal.returns-then-refusal-ne0
+pub returns-in_err-pieces : goal.returns-in_err-pieces
 unfolding cut_says
-returns-then-refusal-ne0 c =
-    let r = c.refusal_by-refusal in
+returns-in_err-pieces c =
     let a = c.args in
-    cut_refused a.end a.offset a.bytes (take a.n a.spans) a.room.now r.result r.ensures
-    c.if-refusal-ne0.true
+    let r : c.from_residual.result ≡ Err c.in_err-pieces.field-0.0 = search rules in
+    let e = c.in_err-pieces.ensures in
+    rw r (e, cut_refused a.end a.offset a.bytes a.spans.now a.room.now (number_of c.in_err-pieces.field-0.0) e)
 
--- Past the test, the request is accepted.
-fits : (c : goal.After-put_pieces-arg-1) → let a = c.args in
-    Accepted a.end a.offset a.bytes (length a.room.now) (take a.n a.spans)
-fits c =
-    let a = c.args in
-    accepted_facts a.end a.offset a.bytes (length a.room.now) (take a.n a.spans)
-    (sym c.refusal_by-refusal.ensures ∙ c.if-refusal-ne0.false)
-
+-- Past the count, the request is accepted.
 pub overflow_add-offset : goal.overflow_add-offset
-overflow_add-offset c = omega (arith, (fits c).below)
+unfolding cut_says
+overflow_add-offset c =
+    let a = c.args in
+    let done = cut_accepted a.end a.offset a.bytes a.spans.now a.room.now c.in_ok-pieces.pieces c.in_ok-pieces.ensures in
+    let k = accepted_facts a.end a.offset a.bytes (length a.room.now) a.spans.now done.0 in
+    omega (arith, k.below)
 
-pub put_pieces-written-requires : goal.put_pieces-written-requires
-put_pieces-written-requires c =
-    let s = c in (s.requires.0, s.requires.1, omega (arith, (fits c).room))
+pub put_pieces-requires : goal.put_pieces-requires
+unfolding cut_says
+put_pieces-requires c =
+    let a = c.args in
+    let done = cut_accepted a.end a.offset a.bytes a.spans.now a.room.now c.in_ok-pieces.pieces c.in_ok-pieces.ensures in
+    let k = accepted_facts a.end a.offset a.bytes (length a.room.now) a.spans.now done.0 in
+    (c.requires, omega (arith, k.room))
 
 pub returns : goal.returns
 unfolding cut_says
 returns c =
-    let put = c in
-    let e = put in
-    let r = e.refusal_by-refusal in
-    let a = e.args in
-    let xs = take a.n a.spans in
-    let done = cut_accepted a.end a.offset a.bytes xs a.room.now r.result r.ensures e.if-refusal-ne0.false in
-    let pieces : put.put_pieces-written.result / 5 ≡ piece_count a.offset (a.offset + a.bytes) xs
-    = omega (arith, put.put_pieces-written.ensures.1) in
-    (ap gives pieces ∙ done.0, put.put_pieces-written.ensures.0 ∙ done.1)
+    let a = c.args in
+    let done = cut_accepted a.end a.offset a.bytes a.spans.now a.room.now c.in_ok-pieces.pieces c.in_ok-pieces.ensures in
+    (c.in_ok-pieces.ensures, c.put_pieces.ensures ∙ done.1)

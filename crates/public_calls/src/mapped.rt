@@ -1,7 +1,6 @@
 // Homes, the way back and requests cut into pieces: document 01's examples a to i.
-use crate::{pages, reading, text};
+use crate::{end_line, pages, reading};
 use layout::Layout;
-use mapping::{BackOut, CutOut, LookupOut};
 use std::io;
 
 // What the numbers are before a call.
@@ -10,17 +9,12 @@ const FILLER: u64 = 0xA5A5A5A5A5A5A5A5;
 // Prints the home of a file byte.
 pub(crate) fn lookup(rt: &impl Print, l: Layout, offset: u64) -> io::Result<()> {
     match moorsickle::lookup(l, offset) {
-        LookupOut::Found(home) => {
-            text::put(rt, b" home target")?;
-            text::put_number(rt, home.target as u64)?;
-            text::put(rt, b" object")?;
-            text::put_number(rt, home.number)?;
-            text::put(rt, b" byte")?;
-            text::put_number(rt, home.byte)?;
-        }
-        LookupOut::Refused(number) => text::put_refused(rt, number)?,
+        Ok(home) => println!(rt;
+            "home target {} object {} byte {}",
+            home.target, home.number, home.byte
+        ),
+        Err(refusal) => println!(rt; "refused {refusal}"),
     }
-    text::end_line(rt)
 }
 
 // Prints the file byte whose home is this.
@@ -32,86 +26,66 @@ pub(crate) fn back(
     byte: u64,
 ) -> io::Result<()> {
     match moorsickle::back(l, target, number, byte) {
-        BackOut::At(offset) => {
-            text::put(rt, b" file byte")?;
-            text::put_number(rt, offset)?;
-        }
-        BackOut::Refused(refusal) => text::put_refused(rt, refusal)?,
+        Ok(offset) => println!(rt; "file byte {offset}"),
+        Err(refusal) => println!(rt; "refused {refusal}"),
     }
-    text::end_line(rt)
-}
-
-// Prints five of the numbers.
-fn put_piece(rt: &impl Print, a: u64, b: u64, c: u64, d: u64, e: u64) -> io::Result<()> {
-    text::put(rt, b" (")?;
-    print!(rt; "{a}")?;
-    text::put_number(rt, b)?;
-    text::put_number(rt, c)?;
-    text::put_number(rt, d)?;
-    text::put_number(rt, e)?;
-    text::put(rt, b")")
-}
-
-// Is the number as it was before the call?
-fn stays(number: u64) -> bool {
-    number == FILLER
 }
 
 // Prints the pieces of a request, of which there are at most two, and whether the lent numbers after them stay.
 pub(crate) fn cut(rt: &impl Print, l: Layout, offset: u64, bytes: u64) -> io::Result<()> {
     let mut room = [FILLER; 12];
-    match moorsickle::cut(l, offset, bytes, &mut room) {
-        CutOut::Pieces(count) => {
-            text::put_number(rt, count)?;
-            text::put(rt, b" pieces")?;
-        }
-        CutOut::Refused(number) => text::put_refused(rt, number)?,
+    let out = moorsickle::cut(l, offset, bytes, &mut room);
+    match out {
+        Ok(count) => print!(rt; "{count} pieces")?,
+        Err(refusal) => print!(rt; "refused {refusal}")?,
     }
-    if !stays(room[0]) {
-        put_piece(rt, room[0], room[1], room[2], room[3], room[4])?;
+    let count = out.unwrap_or(0) as usize;
+    let (pieces, _) = room.as_chunks::<5>();
+    for [offset, length, id, stripe, byte] in pieces.iter().take(count) {
+        print!(rt; " ({offset} {length} {id} {stripe} {byte})")?;
     }
-    if !stays(room[5]) {
-        put_piece(rt, room[5], room[6], room[7], room[8], room[9])?;
-    }
-    text::put_stays(rt, stays(room[10]) & stays(room[11]))?;
-    text::end_line(rt)
+    let mut after = room.chunks(5).skip(count);
+    end_line(
+        rt,
+        after.all(|numbers| numbers.iter().all(|&n| n == FILLER)),
+    )
 }
 
 // Homes in the layout of document 01's page.
 pub(crate) fn one_page(rt: &impl Print, l: Layout) -> io::Result<()> {
-    text::put(rt, b"one page, byte 0:")?;
-    lookup(rt, l, 0)?;
-    text::put(rt, b"one page, byte 65535:")?;
-    lookup(rt, l, 65535)?;
-    text::put(rt, b"one page, byte 65536:")?;
-    lookup(rt, l, 65536)
-}
-
-// Examples a to f.
-fn lookups(rt: &impl Print, l: Layout) -> io::Result<()> {
-    text::put(rt, b"a: A, byte 2097151:")?;
-    lookup(rt, l, 2097151)?;
-    text::put(rt, b"b: A, byte 2097152:")?;
-    lookup(rt, l, 2097152)?;
-    text::put(rt, b"c: A, byte 3145733:")?;
-    lookup(rt, l, 3145733)?;
-    text::put(rt, b"d: A, byte 16777215:")?;
-    lookup(rt, l, 16777215)?;
-    text::put(rt, b"e: A, byte 16777216:")?;
-    lookup(rt, l, 16777216)?;
-    text::put(rt, b"f: A, byte 18446744073709551615:")?;
-    lookup(rt, l, 18446744073709551615)
+    for offset in [0, 65535, 65536] {
+        print!(rt; "one page, byte {offset}: ")?;
+        lookup(rt, l, offset)?;
+    }
+    Ok(())
 }
 
 // Examples a to i, of layout A.
-pub(crate) fn examples(rt: &impl Print) -> io::Result<()> {
-    let page = pages::A;
-    let l = reading::gathered(&page);
-    lookups(rt, l)?;
-    text::put(rt, b"g: A, back from target 2 object 12 byte 1048576:")?;
-    back(rt, l, 2, 12, 1048576)?;
-    text::put(rt, b"h: A, back from target 2 object 12 byte 0:")?;
-    back(rt, l, 2, 12, 0)?;
-    text::put(rt, b"i: A, cut 4 bytes from 2097150:")?;
+fn of_layout_a(rt: &impl Print, l: Layout) -> io::Result<()> {
+    let lookups = [
+        ("a", 2097151),
+        ("b", 2097152),
+        ("c", 3145733),
+        ("d", 16777215),
+        ("e", 16777216),
+        ("f", 18446744073709551615),
+    ];
+    for (example, offset) in lookups {
+        print!(rt; "{example}: A, byte {offset}: ")?;
+        lookup(rt, l, offset)?;
+    }
+    for (example, byte) in [("g", 1048576), ("h", 0)] {
+        print!(rt; "{example}: A, back from target 2 object 12 byte {byte}: ")?;
+        back(rt, l, 2, 12, byte)?;
+    }
+    print!(rt; "i: A, cut 4 bytes from 2097150: ")?;
     cut(rt, l, 2097150, 4)
+}
+
+// Examples a to i.
+pub(crate) fn examples(rt: &impl Print) -> io::Result<()> {
+    match reading::gathered(&pages::A) {
+        Ok(l) => of_layout_a(rt, l),
+        Err(refusal) => println!(rt; "A: refused {refusal}"),
+    }
 }

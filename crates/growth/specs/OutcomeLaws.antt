@@ -14,28 +14,7 @@ use Rattle.free_table.specs.Table.{usable, table_ok}
 use Rattle.free_table.specs.Choosing.{raised_first}
 use Rattle.growth_rules.specs.Steps.{Call, Step, stays, lacks, changes}
 use Rattle.growth_rules.specs.Growing.{Outcome, meets, step_of, refusing, accepting, outcome_of, grow_in, grow_of}
-use Rattle.growth.specs.declared.Plan.{Plan}
-use Rattle.growth.specs.Plans.{planned, planned_objects, plan_says, change_refusal}
-
--- What a plan says by its two flags.
-module _ (p : Plan) (cs : List Component) where
-  abbrev changes_by : Bool → Step
-  changes_by t = cond t (changes (planned p cs) (planned_objects p)) stays
-
-  abbrev lacks_by : Bool → Step
-  lacks_by t = cond t lacks (changes_by p.changes)
-
-  pub plan_lacks : p.lacks ≡ true → plan_says p cs ≡ lacks
-  unfolding plan_says
-  plan_lacks e = ap lacks_by e
-
-  pub plan_stays : p.lacks ≡ false → p.changes ≡ false → plan_says p cs ≡ stays
-  unfolding plan_says
-  plan_stays e f = ap lacks_by e ∙ ap changes_by f
-
-  pub plan_changes : p.lacks ≡ false → p.changes ≡ true → plan_says p cs ≡ changes (planned p cs) (planned_objects p)
-  unfolding plan_says
-  plan_changes e f = ap lacks_by e ∙ ap changes_by f
+use Rattle.growth.specs.Plans.{change_refusal}
 
 -- Of three tests in a row, the first that passes gives its number or its outcome; `other` is for none of them.
 module _ (f : ℕ → Outcome) (other : Outcome) where

@@ -1,9 +1,10 @@
 -- The plans, case by case, as the code comes to them; and the plan of a call on a valid layout.
-use Rattle.std.specs.Prelude.{ℕ, zero, suc, ◌+◌, ◌-◌, ◌≤◌, ◌<◌, ◌≡◌, refl, List, [], ◌∷◌, ◌++◌, Bool, true, false, cond, ◌||◌, length, get_or, take, drop}
+use Rattle.std.specs.Prelude.{None, Result, Ok, ℕ, zero, suc, ◌+◌, ◌-◌, ◌≤◌, ◌<◌, ◌≡◌, refl, List, [], ◌∷◌, ◌++◌, Bool, true, false, cond, ◌||◌, length, get_or, take, drop}
 use Rattle.std.proofs.Common.{sym, ◌∙◌, subst, arith, length-take, take-append-drop, drop-cons, length-take-le, get_or-take}
 use Rattle.std.proofs.Math.Path.{ap}
 use Rattle.std.proofs.Math.Seq.{split_at, slice}
 use Rattle.lists.specs.Bools.{bool_cases}
+use Rattle.refusals.specs.declared.Refusal.{Refusal}
 use Rattle.layout.specs.declared.Component.{Component}
 use Rattle.layout.specs.declared.Layout.{Layout}
 use Rattle.layout.specs.Records.{no_component, ids_of, records_of, view}
@@ -17,8 +18,8 @@ use Rattle.growth_rules.specs.Parts.{with_extent, fresh_id}
 use Rattle.growth_rules.specs.Steps.{Call, Step, held_step, extension_step}
 use Rattle.growth_rules.specs.Growing.{step_of}
 use Rattle.growth_rules.specs.StepLaws.{step_after_all, held_step_lem, extension_step_lem, extension_after}
-use Rattle.growth.specs.declared.Plan.{Plan}
-use Rattle.growth.specs.Plans.{plan_says, no_plan, replacing, granting, choosing_plan, held_plan, follow_plan, spill_plan}
+use Rattle.growth.specs.declared.Change.{Change}
+use Rattle.growth.specs.Plans.{Plan, plan_of, plan_says, replacing, granting, choosing_plan, held_plan, follow_plan, spill_plan}
 use Rattle.growth.specs.Plans.{low_plan, extension_plan, plan_at, PlanFor}
 use Rattle.growth.specs.PlanLaws.{Means, held_means, extension_means}
 
@@ -43,24 +44,24 @@ module _ (mark : ℕ) (rs : List TargetRecord) where
   -- The component that holds the offset is init or an extension, or it is chosen for.
   module _ (i : ℕ) (c : Component) where
     abbrev held_by : Bool → Plan
-    held_by t = cond t (no_plan false c) (choosing_plan mark rs (replacing i 1 c))
+    held_by t = cond t (Ok None) (plan_of (choosing_plan mark rs (replacing i 1 c)))
 
-    pub held_stays : (c.init || c.extension) ≡ true → held_plan mark rs i c ≡ no_plan false c
+    pub held_stays : (c.init || c.extension) ≡ true → held_plan mark rs i c ≡ Ok None
     unfolding held_plan
     held_stays e = ap held_by e
 
-    pub held_chooses : (c.init || c.extension) ≡ false → held_plan mark rs i c ≡ choosing_plan mark rs (replacing i 1 c)
+    pub held_chooses : (c.init || c.extension) ≡ false → held_plan mark rs i c ≡ plan_of (choosing_plan mark rs (replacing i 1 c))
     unfolding held_plan
     held_chooses e = ap held_by e
 
   -- The component after the extension is init, or it is chosen for.
   module _ (j : ℕ) (x n : Component) (cs : List Component) where
-    abbrev spill_by : Bool → Plan
+    abbrev spill_by : Bool → Result Change Refusal
     spill_by t =
         let m = with_extent x.begin n.end n in
-        cond t (replacing (j + 1) 2 m) (choosing_plan mark rs (follow_plan j m cs))
+        cond t (Ok (replacing (j + 1) 2 m)) (choosing_plan mark rs (follow_plan j m cs))
 
-    pub spill_init : n.init ≡ true → spill_plan mark rs j x n cs ≡ replacing (j + 1) 2 (with_extent x.begin n.end n)
+    pub spill_init : n.init ≡ true → spill_plan mark rs j x n cs ≡ Ok (replacing (j + 1) 2 (with_extent x.begin n.end n))
     unfolding spill_plan
     spill_init e = ap spill_by e
 
@@ -71,20 +72,20 @@ module _ (mark : ℕ) (rs : List TargetRecord) where
 
   -- The component before the extension is chosen for, or has a low target, or has none.
   module _ (new j : ℕ) (c x : Component) (cs : List Component) where
-    abbrev grant : Plan
+    abbrev grant : Change
     grant = granting j 2 c x x.begin
 
-    abbrev init_by : Bool → Plan
-    init_by t = cond t (low_plan mark rs new j c x cs) grant
+    abbrev init_by : Bool → Result Change Refusal
+    init_by t = cond t (low_plan mark rs new j c x cs) (Ok grant)
 
-    abbrev extend_by : Bool → Plan
+    abbrev extend_by : Bool → Result Change Refusal
     extend_by t = cond t (init_by (any_low mark rs (records_of c))) (choosing_plan mark rs grant)
 
     pub extension_chooses : c.init ≡ false → extension_plan mark rs new j (c ∷ x ∷ cs) ≡ choosing_plan mark rs grant
     unfolding extension_plan
     extension_chooses e = ap extend_by e
 
-    pub extension_grants : c.init ≡ true → any_low mark rs (records_of c) ≡ false → extension_plan mark rs new j (c ∷ x ∷ cs) ≡ grant
+    pub extension_grants : c.init ≡ true → any_low mark rs (records_of c) ≡ false → extension_plan mark rs new j (c ∷ x ∷ cs) ≡ Ok grant
     unfolding extension_plan
     extension_grants e f = ap extend_by e ∙ ap init_by f
 
@@ -97,11 +98,11 @@ module _ (mark : ℕ) (rs : List TargetRecord) where
   module _ (i : ℕ) (cs : List Component) where
     abbrev at_by : Bool → Plan
     at_by t =
-        cond t (extension_plan mark rs (fresh_id (ids_of cs)) (i - 1) (drop (i - 1) cs))
+        cond t (plan_of (extension_plan mark rs (fresh_id (ids_of cs)) (i - 1) (drop (i - 1) cs)))
         (held_plan mark rs i (get_or cs i no_component))
 
     pub at_extension : (get_or cs i no_component).extension ≡ true
-        → plan_at mark rs i cs ≡ extension_plan mark rs (fresh_id (ids_of cs)) (i - 1) (drop (i - 1) cs)
+        → plan_at mark rs i cs ≡ plan_of (extension_plan mark rs (fresh_id (ids_of cs)) (i - 1) (drop (i - 1) cs))
     unfolding plan_at
     at_extension e = ap at_by e
 
@@ -130,9 +131,7 @@ module _ (l : Layout) (v : Valid l) (k : Call) (i : ℕ) (at : i ≡ holder_of k
   plan_for j p rest s whole m e =
       record {
         says = subst (λ (all : List Component). plan_says p all ≡ step_after_all (take j cs) s) whole m.says ∙ e;
-        within = omega (arith, m.within, ap length whole, v.whole);
-        few = m.few;
-        counted = m.counted;
+        within = rw (whole, v.whole) at m.within;
       }
 
   -- It is no extension.
@@ -150,7 +149,7 @@ module _ (l : Layout) (v : Valid l) (k : Call) (i : ℕ) (at : i ≡ holder_of k
 
   -- It is an extension.
   extension_for : (j : ℕ) → i ≡ suc j → (get_or cs i no_component).extension ≡ true
-      → PlanFor l k (extension_plan k.mark k.table (fresh_id (ids_of cs)) j (slice j l.count l.components))
+      → PlanFor l k (plan_of (extension_plan k.mark k.table (fresh_id (ids_of cs)) j (slice j l.count l.components)))
   extension_for j next e =
       let c = get_or cs j no_component in
       let x = get_or cs (suc j) no_component in
@@ -162,7 +161,7 @@ module _ (l : Layout) (v : Valid l) (k : Call) (i : ℕ) (at : i ≡ holder_of k
       let few = kind_few (kind_at cs v.keeps.fields no_component j (omega arith)) in
       let rest-fields : Fields rest = fields_drop (suc (suc j)) cs v.keeps.fields in
       rw first
-      (plan_for j (extension_plan k.mark k.table new j (c ∷ (x ∷ rest))) (c ∷ (x ∷ rest)) (extension_step k new c x rest)
+      (plan_for j (plan_of (extension_plan k.mark k.table new j (c ∷ (x ∷ rest)))) (c ∷ (x ∷ rest)) (extension_step k new c x rest)
       (rw (← first) (take-append-drop j cs))
       (extension_means k (take j cs) j (sym (length-take-le j cs (omega arith))) c x new rest few
       (λ n after q. kind_few (rw q at rest-fields).1))

@@ -1,202 +1,206 @@
 // The plan of a step: what it puts in place of which components.
-ghost use Rattle.std.specs.Prelude.{◌≡◌, true, ◌+◌, ◌<◌, ◌≤◌, take};
-ghost use Rattle.std.proofs.Math.Seq.{slice};
+ghost use Rattle.std.specs.Prelude.{◌≡◌, true, ◌+◌, ◌<◌, ◌≤◌, drop, length};
 ghost use Rattle.layout.specs.Records.{ids_of, view};
 ghost use Rattle.layout.specs.Rules.{valid};
 ghost use Rattle.layout.specs.Facts.{Fields};
-ghost use Rattle.free_table.specs.Table.{table_of, table_ok};
+ghost use Rattle.free_table.specs.Table.{table_ok};
 ghost use Rattle.growth_rules.specs.Parts.{fresh_id};
-ghost use Rattle.growth.specs.Plans.{no_plan, replacing, granting, choosing_plan, held_plan, follow_plan, spill_plan};
+ghost use Rattle.growth.specs.Plans.{replacing, granting, choosing_plan, held_plan, follow_plan, spill_plan};
 ghost use Rattle.growth.specs.Plans.{repeat_plan, low_plan, extension_plan, plan_at};
 
-use crate::{Plan, components};
-use free_table::Table;
+use crate::{Change, components};
+use free_table::TargetRecord;
 use layout::{Component, Layout};
+use refusals::Refusal;
 
-// The plan that changes nothing; `lacks` says that this is for want of usable targets. What the component is means
-// nothing.
-fn no_plan(lacks: bool, c: Component) -> Plan
-    ensures { result ≡ no_plan lacks c }
-{
-    Plan {
-        lacks: lacks,
-        changes: false,
-        at: 0,
-        old: 0,
-        made: c,
-        leaves: false,
-        left: c,
-        chosen: 0,
-    }
-}
-
-// The plan that puts one component in place of `old` from position `at` on.
-fn replacing(at: usize, old: usize, made: Component) -> Plan
+// One component in place of `old` from position `at` on. No extension is left.
+fn replacing(at: usize, old: usize, made: Component) -> Change
     ensures { result ≡ replacing at old made }
 {
-    Plan {
-        lacks: false,
-        changes: true,
-        at: at,
-        old: old,
-        made: made,
-        leaves: false,
-        left: made,
+    Change {
+        at,
+        old,
+        made,
+        left: None,
         chosen: 0,
     }
 }
 
-// The plan that puts c in place of `old` components from position `at` on, the last of which is the extension x: c
-// ends at the lower of `from` + the size of x and the end of x, and what is left of x is after it.
-fn granting(at: usize, old: usize, c: Component, x: Component, from: u64) -> Plan
+// The component c in place of `old` components from position `at` on, the last of which is the extension x: c ends at
+// the lower of `from` + the size of x and the end of x, and what is left of x is after it.
+fn granting(at: usize, old: usize, c: Component, x: Component, from: u64) -> Change
     ensures { result ≡ granting at old c x from }
 {
     let end = components::reach(from, x);
-    let made = components::with_extent(c, c.begin, end);
-    let left = components::with_extent(x, end, x.end);
-    Plan {
-        lacks: false,
-        changes: true,
-        at: at,
-        old: old,
-        made: made,
-        leaves: end != x.end,
-        left: left,
+    let left = if end == x.end {
+        None
+    } else {
+        Some(components::with_extent(x, end, x.end))
+    };
+    Change {
+        at,
+        old,
+        made: components::with_extent(c, c.begin, end),
+        left,
         chosen: 0,
     }
 }
 
-// The plan with targets chosen for the component that it makes.
-fn choosing(p: Plan, mark: u64, t: Table) -> Plan
-    requires { (p.made.stripe_count ≤ 16) × (table_ok (table_of t) ≡ true) }
-    ensures { result ≡ choosing_plan mark (table_of t) p }
+// The change with targets chosen for the component that it makes.
+fn choosing(p: Change, mark: u64, table: &[TargetRecord]) -> Result<Change, Refusal>
+    requires { (p.made.stripe_count ≤ 16) × (table_ok table.now ≡ true) }
+    ensures { result ≡ choosing_plan mark table.now p }
 {
     let s = p.made.stripe_count as usize;
-    let choice = free_table::choose(t, mark, s);
-    let made = p.made;
+    let choice = free_table::choose(table, mark, s);
     if choice.count != s {
-        return no_plan(true, made);
+        return Err(Refusal::TooFewTargets);
     }
-    let mut q = p;
-    q.made = components::init_with(made, choice);
-    q.chosen = s;
-    q
+    Ok(Change {
+        made: components::init_with(p.made, choice.objects),
+        chosen: s,
+        ..p
+    })
 }
 
 // The component c at position i, which is no extension, holds the offset.
-fn held_plan(i: usize, c: Component, mark: u64, t: Table) -> Plan
-    requires { (c.stripe_count ≤ 16) × (table_ok (table_of t) ≡ true) }
-    ensures { result ≡ held_plan mark (table_of t) i c }
+fn held_plan(
+    i: usize,
+    c: Component,
+    mark: u64,
+    table: &[TargetRecord],
+) -> Result<Option<Change>, Refusal>
+    requires { (c.stripe_count ≤ 16) × (table_ok table.now ≡ true) }
+    ensures { result ≡ held_plan mark table.now i c }
 {
     if c.init | c.extension {
-        return no_plan(false, c);
+        return Ok(None);
     }
-    choosing(replacing(i, 1, c), mark, t)
+    let change = choosing(replacing(i, 1, c), mark, table)?;
+    Ok(Some(change))
 }
 
-// The component m, which begins where the extension at position j + 1 began, is in place of that extension and of
-// the component after it; an extension that follows these gives a part to m.
-fn follow_plan(list: [Component; 16], n: usize, j: usize, m: Component) -> Plan
-    requires { (n ≤ 16) × (j < n) }
-    ensures { result ≡ follow_plan j m (slice (j + 3) n list) }
+// The component m, which begins where the extension at position j + 1 began, is in place of that extension and of the
+// component after it; an extension that follows these gives a part to m. `after` are the components that follow.
+fn follow_plan(j: usize, m: Component, after: &[Component]) -> Change
+    requires { j < 16 }
+    ensures { result ≡ follow_plan j m after.now }
 {
-    let k = j + 3;
-    if n <= k {
-        return replacing(j + 1, 2, m);
+    match after {
+        [] => replacing(j + 1, 2, m),
+        [y, ..] => if y.extension {
+            granting(j + 1, 3, m, *y, m.begin)
+        } else {
+            replacing(j + 1, 2, m)
+        },
     }
-    let y = list[k];
-    if !y.extension {
-        return replacing(j + 1, 2, m);
-    }
-    granting(j + 1, 3, m, y, m.begin)
 }
 
-// Spill-over: the extension x at position j + 1 goes, and the component after it, `next`, begins where x began.
+// Spill-over: the extension x at position j + 1 goes, and the component after it, `next`, begins where x began. `after`
+// are the components after `next`.
 fn spill_plan(
-    list: [Component; 16],
-    n: usize,
     j: usize,
     x: Component,
     next: Component,
+    after: &[Component],
     mark: u64,
-    t: Table,
-) -> Plan
-    requires { (n ≤ 16) × (j < n) × (next.stripe_count ≤ 16) × (table_ok (table_of t) ≡ true) }
-    ensures { result ≡ spill_plan mark (table_of t) j x next (slice (j + 3) n list) }
+    table: &[TargetRecord],
+) -> Result<Change, Refusal>
+    requires { (j < 16) × (next.stripe_count ≤ 16) × (table_ok table.now ≡ true) }
+    ensures { result ≡ spill_plan mark table.now j x next after.now }
 {
     let m = components::with_extent(next, x.begin, next.end);
     if next.init {
-        return replacing(j + 1, 2, m);
+        return Ok(replacing(j + 1, 2, m));
     }
-    choosing(follow_plan(list, n, j, m), mark, t)
+    choosing(follow_plan(j, m, after), mark, table)
 }
 
-// Repeat: a new component like c, which is at position j, is before the extension x after c and takes the
-// grant. If too few targets are usable, c takes it: forced extension.
-fn repeat_plan(j: usize, c: Component, x: Component, id: u16, mark: u64, t: Table) -> Plan
-    requires { (j < 16) × (c.stripe_count ≤ 16) × (table_ok (table_of t) ≡ true) }
-    ensures { result ≡ repeat_plan mark (table_of t) id j c x }
+// Repeat: a new component like c, which is at position j, is before the extension x after c and takes the grant. If too
+// few targets are usable, c takes it: forced extension.
+fn repeat_plan(
+    j: usize,
+    c: Component,
+    x: Component,
+    id: u16,
+    mark: u64,
+    table: &[TargetRecord],
+) -> Change
+    requires { (j < 16) × (c.stripe_count ≤ 16) × (table_ok table.now ≡ true) }
+    ensures { result ≡ repeat_plan mark table.now id j c x }
 {
     let base = components::repeat_base(c, id, x.begin);
-    let p = choosing(granting(j + 1, 1, base, x, x.begin), mark, t);
-    if p.lacks {
-        return granting(j, 2, c, x, x.begin);
+    match choosing(granting(j + 1, 1, base, x, x.begin), mark, table) {
+        Ok(change) => change,
+        Err(_) => granting(j, 2, c, x, x.begin),
     }
-    p
 }
 
 // The extension x at position j + 1 holds the offset, and c before it, which is init, has a low target.
 fn low_plan(
-    list: [Component; 16],
-    n: usize,
+    components: &[Component],
     j: usize,
     c: Component,
     x: Component,
     mark: u64,
-    t: Table,
-) -> Plan
-    requires { (n ≤ 16)
-        × (j < n)
-        × Fields (take n list)
+    table: &[TargetRecord],
+) -> Result<Change, Refusal>
+    requires { (length components.now ≤ 16)
+        × (j + 1 < length components.now)
+        × Fields components.now
         × (c.stripe_count ≤ 16)
-        × (table_ok (table_of t) ≡ true) }
-    ensures { result ≡ low_plan mark (table_of t) (fresh_id (ids_of (take n list))) j c x (slice (j + 2) n list) }
+        × (table_ok table.now ≡ true) }
+    ensures { result
+        ≡ low_plan mark table.now (fresh_id (ids_of components.now)) j c x (drop (j + 2) components.now) }
 {
-    let k = j + 2;
-    if n <= k {
-        let id = components::fresh_id(list, n);
-        return repeat_plan(j, c, x, id, mark, t);
+    match &components[j + 2..] {
+        [] => Ok(repeat_plan(j, c, x, components::fresh_id(components), mark, table)),
+        [next, after @ ..] => spill_plan(j, x, *next, after, mark, table),
     }
-    spill_plan(list, n, j, x, list[k], mark, t)
 }
 
 // The extension at position j + 1 holds the offset.
-fn extension_plan(list: [Component; 16], n: usize, j: usize, mark: u64, t: Table) -> Plan
-    requires { (n ≤ 16) × (j + 1 < n) × Fields (take n list) × (table_ok (table_of t) ≡ true) }
-    ensures { result ≡ extension_plan mark (table_of t) (fresh_id (ids_of (take n list))) j (slice j n list) }
+fn extension_plan(
+    components: &[Component],
+    j: usize,
+    mark: u64,
+    table: &[TargetRecord],
+) -> Result<Change, Refusal>
+    requires { (length components.now ≤ 16)
+        × (j + 1 < length components.now)
+        × Fields components.now
+        × (table_ok table.now ≡ true) }
+    ensures { result
+        ≡ extension_plan mark table.now (fresh_id (ids_of components.now)) j (drop j components.now) }
 {
-    let c = list[j];
-    let x = list[j + 1];
-    let p = granting(j, 2, c, x, x.begin);
+    let c = components[j];
+    let x = components[j + 1];
+    let grant = granting(j, 2, c, x, x.begin);
     if !c.init {
-        return choosing(p, mark, t);
+        return choosing(grant, mark, table);
     }
-    if !free_table::any_low(t, mark, c) {
-        return p;
+    if !free_table::any_low(table, mark, c.objects()) {
+        return Ok(grant);
     }
-    low_plan(list, n, j, c, x, mark, t)
+    low_plan(components, j, c, x, mark, table)
 }
 
 // The plan of the step for the component at position i. If this component holds the offset, it is the plan of the call
 // (`plan_holder`).
-pub fn plan_at(l: Layout, i: usize, mark: u64, t: Table) -> Plan
-    requires { (valid l ≡ true) × (i < l.count) × (table_ok (table_of t) ≡ true) }
-    ensures { result ≡ plan_at mark (table_of t) i (view l) }
+pub fn plan_at(
+    l: &Layout,
+    i: usize,
+    mark: u64,
+    table: &[TargetRecord],
+) -> Result<Option<Change>, Refusal>
+    requires { (valid l.now ≡ true) × (i < l.now.count) × (table_ok table.now ≡ true) }
+    ensures { result ≡ plan_at mark table.now i (view l.now) }
 {
-    let list = l.components;
-    let c = list[i];
+    let components = l.components();
+    let c = components[i];
     if !c.extension {
-        return held_plan(i, c, mark, t);
+        return held_plan(i, c, mark, table);
     }
-    extension_plan(list, l.count, i - 1, mark, t)
+    let change = extension_plan(components, i - 1, mark, table)?;
+    Ok(Some(change))
 }

@@ -1,21 +1,22 @@
 -- `growth::grow` meets its contract: 1 is asked first.
+use Rattle.std.specs.Prelude.{Err, refl}
 use Rattle.std.proofs.Common.{sym, ◌∙◌, subst}
+use Rattle.refusals.specs.declared.Refusal.TheVariants.{NotValid}
 use Rattle.growth_rules.specs.Growing.{Outcome}
-use Rattle.growth.specs.Answers.{call_of, GrownSays}
+use Rattle.growth.specs.Answers.{call_of, grow_says, GrownSays}
 use Rattle.growth.specs.OutcomeLaws.{grow_invalid, grow_checked}
 use Rattle.growth.proofs.grow.Goals as goal
 
 pub returns-then-not-is_valid : goal.returns-then-not-is_valid
+unfolding grow_says
 returns-then-not-is_valid c =
     let a = c.args in
-    let e = grow_invalid a.l (call_of a.offset a.mark a.t) (sym c.is_valid.ensures ∙ c.if-not-is_valid.true) in
-    subst (λ (o : Outcome). GrownSays a.t c.refused.result o) (sym e) c.refused.ensures
-
-pub grow_valid-requires : goal.grow_valid-requires
-grow_valid-requires c = sym c.is_valid.ensures ∙ c.if-not-is_valid.false
+    let e = grow_invalid a.l (call_of a.offset a.mark a.table.now) (sym c.is_valid.ensures ∙ c.if-not-is_valid.true) in
+    subst (λ (o : Outcome). GrownSays a.l (Err NotValid) a.table.now o) (sym e)
+    record { answer = refl; layout = refl; table = refl }
 
 pub returns : goal.returns
 returns c =
     let a = c.args in
-    let e = grow_checked a.l (call_of a.offset a.mark a.t) (sym c.is_valid.ensures ∙ c.if-not-is_valid.false) in
-    subst (λ (o : Outcome). GrownSays a.t c.grow_valid.result o) (sym e) c.grow_valid.ensures
+    let e = grow_checked a.l (call_of a.offset a.mark a.table.now) (sym c.is_valid.ensures ∙ c.if-not-is_valid.false) in
+    subst (λ (o : Outcome). GrownSays a.l c.grow_valid.result c.grow_valid.new.table o) (sym e) c.grow_valid.ensures

@@ -1,68 +1,96 @@
 -- `growth::grow_valid` meets its contract: 10 and 15 are asked in their order, and then the step is made.
-use Rattle.std.specs.Prelude.{ℕ, ◌≤◌, ◌<◌, ◌≡◌, true, false, leb, length}
-use Rattle.std.proofs.Common.{sym, ◌∙◌, subst, arith}
-use borrow.Author.Tests.{le-leb, lt-leb}
+use Rattle.std.specs.Prelude.{ℕ, ◌≤◌, ◌<◌, ◌≡◌, List, None, Some, Err, true, false, refl, leb, length}
+use Rattle.std.proofs.Common.{ap, sym, ◌∙◌, subst, arith}
+use Rattle.std.proofs.lemmas.Bool.{le-leb, lt-leb}
+use borrow.Author.Rules.{rules}
+use Rattle.lists.specs.Tests.{found}
+use Rattle.refusals.specs.declared.Refusal.TheVariants.{PastEnd}
+use Rattle.refusals.specs.declared.Refusal.TheVariants as Refusal
 use Rattle.layout.specs.declared.Layout.{Layout}
 use Rattle.layout.specs.Records.{view}
 use Rattle.layout.specs.Holder.{holder_of, last_end}
 use Rattle.layout.specs.Facts.{Valid}
 use Rattle.layout.specs.FactLaws.{valid_facts}
-use Rattle.growth_rules.specs.Growing.{Outcome}
+use Rattle.free_table.specs.declared.TargetRecord.{TargetRecord}
+use Rattle.mapping.proofs.Firsts.{found_some, found_none}
+use Rattle.growth_rules.specs.Growing.{Outcome, step_of, outcome_of}
 use Rattle.growth_rules.specs.StepLaws.{past_holder}
-use Rattle.growth.specs.Answers.{call_of, GrownSays}
+use Rattle.growth.specs.Answers.{call_of, grow_says, GrownSays}
+use Rattle.growth.specs.Plans.{plan_says, plan_at, PlanFor}
 use Rattle.growth.specs.OutcomeLaws.{grow_past, grow_bad_table, grow_steps}
 use Rattle.growth.specs.PlanCases.{plan_holder}
 use Rattle.growth.proofs.grow_valid.Goals as goal
 
 -- The offset lies below the last end if a component holds it, and else at or past it.
-module _ (l : Layout) (v : Valid l) (offset i : ℕ) (at : i ≡ holder_of offset (view l)) where
-  inside : i < l.count → leb (last_end (view l)) offset ≡ false
-  inside h =
+module _ (l : Layout) (v : Valid l) (offset : ℕ) where
+  inside : (i : ℕ) → found (holder_of offset (view l)) l.count ≡ Some i → leb (last_end (view l)) offset ≡ false
+  inside i e =
       past_holder false (view l) v.keeps.linked v.keeps.fields offset
-      ∙ lt-leb (length (view l)) (holder_of offset (view l)) (omega (arith, v.whole))
+      ∙ lt-leb (length (view l)) (holder_of offset (view l)) (omega (arith, v.whole, found_some _ _ i e))
 
-  past : l.count ≤ i → leb (last_end (view l)) offset ≡ true
-  past h =
+  past : found (holder_of offset (view l)) l.count ≡ None → leb (last_end (view l)) offset ≡ true
+  past e =
       past_holder false (view l) v.keeps.linked v.keeps.fields offset
-      ∙ le-leb (length (view l)) (holder_of offset (view l)) (omega (arith, v.whole))
+      ∙ le-leb (length (view l)) (holder_of offset (view l)) (omega (arith, v.whole, found_none _ _ e))
 
-pub returns-then-l-i : goal.returns-then-l-i
-returns-then-l-i c =
+  -- The plan for the component that holds the offset is the plan of the call.
+  plan_found : (mark : ℕ) (rs : List TargetRecord) (i : ℕ) → found (holder_of offset (view l)) l.count ≡ Some i
+      → PlanFor l (call_of offset mark rs) (plan_at mark rs i (view l))
+  plan_found mark rs i e =
+      let s = found_some _ _ i e in plan_holder l v (call_of offset mark rs) i s.0 (omega (arith, s))
+
+pub returns-in_err-i : goal.returns-in_err-i
+unfolding grow_says
+returns-in_err-i c =
     let a = c.args in
-    let i = c.holder-i in
-    let e = past a.l (valid_facts a.l c.requires) a.offset i.result i.ensures.0 c.if-l-i.true in
-    subst (λ (o : Outcome). GrownSays a.t c.refused.result o) (sym (grow_past a.l (call_of a.offset a.mark a.t) e))
-    c.refused.ensures
+    let r : c.from_residual.result ≡ Err PastEnd = search rules in
+    let e =
+    grow_past a.l (call_of a.offset a.mark a.table.now)
+    (past a.l (valid_facts a.l c.requires) a.offset (sym c.holder.ensures ∙ c.in_err-i.ensures.ok_part)) in
+    subst (λ (o : Outcome). GrownSays a.l c.from_residual.result a.table.now o) (sym e)
+    record { answer = rw r; layout = rw r; table = refl }
 
 pub returns-then-not-table_ok : goal.returns-then-not-table_ok
+unfolding grow_says
 returns-then-not-table_ok c =
     let a = c.args in
-    let i = c.holder-i in
-    let below = inside a.l (valid_facts a.l c.requires) a.offset i.result i.ensures.0 c.if-l-i.false in
+    let below = inside a.l (valid_facts a.l c.requires) a.offset c.in_ok-i.i (sym c.holder.ensures ∙ c.in_ok-i.ensures.ok_part) in
     let e =
-    grow_bad_table a.l (call_of a.offset a.mark a.t) below (sym c.table_ok.ensures ∙ c.if-not-table_ok.true) in
-    subst (λ (o : Outcome). GrownSays a.t c.refused-then-not-table_ok.result o) (sym e)
-    c.refused-then-not-table_ok.ensures
+    grow_bad_table a.l (call_of a.offset a.mark a.table.now) below (sym c.table_ok.ensures ∙ c.if-not-table_ok.true) in
+    subst (λ (o : Outcome). GrownSays a.l (Err Refusal.Table) a.table.now o) (sym e)
+    record { answer = refl; layout = refl; table = refl }
 
-pub plan_at-p-requires : goal.plan_at-p-requires
-plan_at-p-requires c = (c.requires, c.if-l-i.false, sym c.table_ok.ensures ∙ c.if-not-table_ok.false)
-
-pub of_step-requires : goal.of_step-requires
-of_step-requires c =
+pub returns-in_err-plan : goal.returns-in_err-plan
+unfolding grow_says plan_says outcome_of
+returns-in_err-plan c =
     let a = c.args in
-    let i = c.holder-i in
-    let call = call_of a.offset a.mark a.t in (
-      c.requires,
-      sym c.table_ok.ensures ∙ c.if-not-table_ok.false,
-      rw c.plan_at-p.ensures
-          (plan_holder a.l (valid_facts a.l c.requires) call i.result i.ensures.0 c.if-l-i.false),
-    )
+    let call = call_of a.offset a.mark a.table.now in
+    let v = valid_facts a.l c.requires in
+    let i = c.in_ok-i.i in
+    let there = sym c.holder.ensures ∙ c.in_ok-i.ensures.ok_part in
+    let e = c.in_err-plan.field-0.0 in
+    let r : c.from_residual-in_err-plan.result ≡ Err e = search rules in
+    let plan : PlanFor a.l call (Err e) =
+    rw (sym c.in_err-plan.ensures) at (plan_found a.l v a.offset a.mark a.table.now i there) in
+    let s =
+    grow_steps a.l call (inside a.l v a.offset i there) (sym c.table_ok.ensures ∙ c.if-not-table_ok.false)
+    ∙ ap (outcome_of a.l call) (sym plan.says) in
+    subst (λ (o : Outcome). GrownSays a.l c.from_residual-in_err-plan.result a.table.now o) (sym s)
+    record { answer = rw (r, plan.within); layout = rw r; table = refl }
+
+pub of_plan-requires : goal.of_plan-requires
+of_plan-requires c =
+    let a = c.args in
+    let there = sym c.holder.ensures ∙ c.in_ok-i.ensures.ok_part in
+    let plan = plan_found a.l (valid_facts a.l c.requires) a.offset a.mark a.table.now c.in_ok-i.i there in
+    (c.requires, sym c.table_ok.ensures ∙ c.if-not-table_ok.false, rw (sym c.in_ok-plan.ensures) at plan)
 
 pub returns : goal.returns
 returns c =
     let a = c.args in
-    let i = c.holder-i in
-    let below = inside a.l (valid_facts a.l c.requires) a.offset i.result i.ensures.0 c.if-l-i.false in
+    let there = sym c.holder.ensures ∙ c.in_ok-i.ensures.ok_part in
     let e =
-    grow_steps a.l (call_of a.offset a.mark a.t) below (sym c.table_ok.ensures ∙ c.if-not-table_ok.false) in
-    subst (λ (o : Outcome). GrownSays a.t c.of_step.result o) (sym e) c.of_step.ensures
+    grow_steps a.l (call_of a.offset a.mark a.table.now)
+    (inside a.l (valid_facts a.l c.requires) a.offset c.in_ok-i.i there)
+    (sym c.table_ok.ensures ∙ c.if-not-table_ok.false) in
+    subst (λ (o : Outcome). GrownSays a.l c.of_plan.result c.of_plan.new.table o) (sym e) c.of_plan.ensures

@@ -1,9 +1,6 @@
--- `growth::changing::changed` meets its contract: the components by the plan are in the first places of the array.
-use mathlib.Core.Path.{◌≡◌, ap, ◌∙◌}
-use mathlib.Core.List.{List}
-use native.Mathlib.Omega.{arith}
-use Prim.Native.Nat.{◌+◌}
-use lib.ListN.{length}
+-- `growth::changing::changed` meets its contract: the components by the change are in the first places of the array.
+use Rattle.std.specs.Prelude.{◌+◌, ◌≡◌, List, length}
+use Rattle.std.proofs.Common.{ap, ◌∙◌, arith}
 use Rattle.layout.specs.declared.Component.{Component}
 use Rattle.layout.specs.Records.{packed}
 use Rattle.growth.specs.SpliceLaws.{spliced_planned}
@@ -11,11 +8,9 @@ use Rattle.growth.proofs.changing.changed.Goals as goal
 
 pub returns : goal.returns
 returns c =
-    let s = c in
-    let a = s.args in
-    let list = a.l.components in
-    let h : length list ≡ 16 = s.well_formed.0.1.1.1.1.0.1.0.1 in
+    let l = c.args.l in
+    let r = c.requires in
     c.pack.ensures
-    ∙ ap (λ (cs : List Component). packed (a.l.generation + 1) cs)
+    ∙ ap (λ (cs : List Component). packed (l.generation + 1) cs)
     (rw (c.planned_count.ensures, c.spliced-next.ensures)
-    (spliced_planned a.p list a.l.count (omega (arith, s.requires.0)) s.requires.1 (omega (arith, s.requires.2))))
+    (spliced_planned c.args.p l.components l.count (omega (arith, r.0)) r.1 (omega (arith, r.2))))

@@ -1,48 +1,33 @@
--- `growth::outcomes::is_among` meets its contract. The loop's invariant: what is asked of all object records is asked of those
--- from i on.
-use Prim.Native.Nat.{suc, ◌<◌}
-use mathlib.Core.Path.{refl, sym, ◌∙◌}
-use native.Mathlib.Omega.{arith}
-use lib.ListN.{length}
+-- `growth::outcomes::is_among` meets its contract.
+use Rattle.std.specs.Prelude.{◌≡◌, refl, List, [], ◌∷◌, ◌++◌, Bool, ◌||◌}
+use Rattle.std.proofs.Common.{ap, sym, ◌∙◌}
 use borrow.Author.Rules.{rules}
-use Rattle.lists.proofs.Loops.{row_pass, row_hit, row_done}
-use Rattle.layout.specs.Records.{no_object}
-use Rattle.layout.specs.Rows.{named, get_d_named, length_named}
+use borrow.Author.Tests.{tests}
+use Rattle.std.proofs.lemmas.Iterator.{YieldsList-from_slice}
+use Rattle.lists.specs.Bools.{bool_cases}
+use Rattle.lists.specs.Tests.{any_of}
+use Rattle.lists.specs.Counting.{elem}
+use Rattle.lists.proofs.Iterators.{any_of-any}
+use Rattle.layout.specs.declared.Object.{Object}
+use Rattle.layout.specs.declared.Component.{Component}
+use Rattle.layout.specs.Records.{records_of, records_in}
 use Rattle.layout.specs.Distinct.{same_object}
 use Rattle.growth.proofs.outcomes.is_among.Goals as goal
 
-pub loop-i-init : goal.loop-i-init
-loop-i-init c = (search rules, refl)
+-- An object is in one of two lists if it is in the one or the other.
+either : (o : Object) (l m : List Object) → (elem same_object o l || elem same_object o m) ≡ elem same_object o (l ++ m)
+either o [] m = refl
+either o (x ∷ l) m = bool_cases (same_object o x) (λ e. rw e) (λ e. rw e (either o l m))
 
-pub returns-then-same_object : goal.returns-then-same_object
-returns-then-same_object c =
-    let p = c in
-    let a = p.args in
-    let ts = a.targets.now in
-    let ns = a.numbers.now in
-    let t : p.loop-i.i < length ts = omega arith in
-    let u : p.loop-i.i < length ns = omega arith in
-    sym (p.loop-i.invariant.1 ∙ row_hit same_object (named ts ns) a.n p.loop-i.i _ no_object
-    c.loop-i-test.true (length_named ts ns (suc p.loop-i.i) t u)
-    (rw (get_d_named ts ns p.loop-i.i t u) (sym c.same_object.ensures ∙ c.if-same_object.true)))
-
-pub loop-i-preserved : goal.loop-i-preserved
-loop-i-preserved c =
-    let p = c in
-    let a = p.args in
-    let ts = a.targets.now in
-    let ns = a.numbers.now in
-    let t : p.loop-i.i < length ts = omega arith in
-    let u : p.loop-i.i < length ns = omega arith in (
-      omega arith,
-      p.loop-i.invariant.1 ∙ row_pass same_object (named ts ns) a.n p.loop-i.i _ no_object
-          c.loop-i-test.true (length_named ts ns (suc p.loop-i.i) t u)
-          (rw (get_d_named ts ns p.loop-i.i t u) (sym c.same_object.ensures ∙ c.if-same_object.false)),
-    )
+-- It is among the object records of the components if it is among those of one of them.
+in_one : (o : Object) (cs : List Component)
+    → any_of (λ (c : Component). elem same_object o (records_of c)) cs ≡ elem same_object o (records_in cs)
+in_one o [] = refl
+in_one o (c ∷ cs) =
+    ap (λ (t : Bool). elem same_object o (records_of c) || t) (in_one o cs) ∙ either o (records_of c) (records_in cs)
 
 pub returns : goal.returns
 returns c =
-    let p = c in
-    let a = p.args in
-    sym (p.loop-i.invariant.1
-    ∙ row_done same_object (named a.targets.now a.numbers.now) a.n p.loop-i.i _ c.loop-i-test.false)
+    any_of-any (λ (d : Component). elem same_object c.args.o (records_of d)) _ _ _ c.any.ensures.ran
+    (YieldsList-from_slice c.args.components.now cc) (λ x b q k. search (rules, tests))
+    ∙ in_one c.args.o c.args.components.now

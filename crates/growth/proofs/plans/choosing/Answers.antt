@@ -1,10 +1,8 @@
 -- `growth::plans::choosing` meets its contract: there are as many chosen targets as stripes, or not.
-use mathlib.Core.Path.{◌≡◌, sym, ap, ◌∙◌}
-use lib.ListN.{length}
-use borrow.Author.Tests.{eq-eqb, ne_eqb}
+use Rattle.std.proofs.Common.{◌≡◌, length, sym, ap, ◌∙◌, eq-eqb, ne_eqb}
 use Rattle.layout.specs.Records.{pack_objects}
 use Rattle.free_table.specs.declared.Choice.{Choice}
-use Rattle.free_table.specs.Table.{table_of, usable}
+use Rattle.free_table.specs.Table.{usable}
 use Rattle.free_table.specs.Choosing.{chosen}
 use Rattle.growth.specs.Plans.{choosing_plan}
 use Rattle.growth.proofs.plans.choosing.Goals as goal
@@ -13,19 +11,19 @@ pub returns-then-choice-s : goal.returns-then-choice-s
 unfolding choosing_plan
 returns-then-choice-s c =
     let a = c.args in
-    let x = c.choose-choice in
     let s = a.p.made.stripe_count in
-    let os = chosen (usable a.mark) s (table_of a.t) in
+    let x = c.choose-choice in
+    let os = chosen (usable a.mark) s a.table.now in
     let n : x.result.count ≡ length os = ap (λ (y : Choice). y.count) x.ensures.0 in
-    rw (c.no_plan.ensures, ne_eqb (length os) s (λ e. c.if-choice-s.true (n ∙ e)))
+    rw (ne_eqb (length os) s (λ e. c.if-choice-s.true (n ∙ e)))
 
 pub returns : goal.returns
 unfolding choosing_plan
 returns c =
     let a = c.args in
-    let x = c.choose-choice in
     let s = a.p.made.stripe_count in
-    let os = chosen (usable a.mark) s (table_of a.t) in
+    let x = c.choose-choice in
+    let os = chosen (usable a.mark) s a.table.now in
     let n : length os ≡ s = sym (ap (λ (y : Choice). y.count) x.ensures.0) ∙ c.if-choice-s.false in
     let o : x.result.objects ≡ pack_objects os = ap (λ (y : Choice). y.objects) x.ensures.0 in
-    rw (c.init_with-q.ensures, o, eq-eqb (length os) s n, n)
+    rw (c.init_with.ensures, o, eq-eqb (length os) s n, n)

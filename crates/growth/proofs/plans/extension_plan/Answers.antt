@@ -1,75 +1,63 @@
 -- `growth::plans::extension_plan` meets its contract.
-use Rattle.std.specs.Prelude.{ℕ, ◌+◌, ◌≤◌, ◌<◌, ◌≡◌, List, ◌∷◌, length, get_or, take}
-use Rattle.std.proofs.Math.Seq.{slice}
-use Rattle.std.proofs.Common.{sym, ap, ◌∙◌, arith, rules}
-use borrow.Author.Tests.{not-true, not-false}
-use Rattle.lists.specs.Slices.{slice_next}
+use Rattle.std.specs.Prelude.{ℕ, ◌+◌, ◌<◌, ◌≡◌, List, ◌∷◌, length, get_or, drop, Ok}
+use Rattle.std.proofs.Common.{sym, ap, ◌∙◌, arith}
+use Rattle.std.proofs.lemmas.List.{drop_more}
 use Rattle.layout.specs.declared.Component.{Component}
 use Rattle.layout.specs.Records.{ids_of}
+use Rattle.layout.specs.FactLaws.{kind_few}
+use Rattle.layout.specs.ArrayLaws.{kind_at}
 use Rattle.layout.proofs.Unread.{unread}
-use Rattle.free_table.specs.declared.Table.{Table}
-use Rattle.free_table.specs.Table.{table_of}
-use Rattle.free_table.proofs.ChoosingLaws.{table_count}
+use Rattle.free_table.specs.declared.TargetRecord.{TargetRecord}
 use Rattle.growth_rules.specs.Parts.{fresh_id}
 use Rattle.growth.specs.Plans.{extension_plan}
-use Rattle.growth.specs.PlanCases.{few_stripes, extension_chooses, extension_grants, extension_low}
+use Rattle.growth.specs.PlanCases.{extension_chooses, extension_grants, extension_low}
 use Rattle.growth.proofs.plans.extension_plan.Goals as goal
 
 -- The components from position j on.
-from : (list : List Component) (n j : ℕ) → j + 1 < n → n ≤ length list
-    → slice j n list ≡ get_or list j unread ∷ (get_or list (j + 1) unread ∷ slice (j + 2) n list)
-from list n j h k =
+from : (cs : List Component) (j : ℕ) → j + 1 < length cs
+    → drop j cs ≡ get_or cs j unread ∷ (get_or cs (j + 1) unread ∷ drop (j + 2) cs)
+from cs j h =
     let two : j + 1 + 1 ≡ j + 2 = omega arith in
-    let w : j + 1 < length list = omega arith in
-    slice_next list n j unread (omega arith) (omega arith) ∙ rw (slice_next list n (j + 1) unread h w, two)
+    drop_more cs j unread (omega arith) ∙ rw (drop_more cs (j + 1) unread h, two)
 
 -- The plan that is asked for, by these components.
-asked : (list : List Component) (n j mark : ℕ) (t : Table) → j + 1 < n → n ≤ length list
-    → (let plan = extension_plan mark (table_of t) (fresh_id (ids_of (take n list))) j in
-    plan (get_or list j unread ∷ (get_or list (j + 1) unread ∷ slice (j + 2) n list)) ≡ plan (slice j n list))
-asked list n j mark t h k =
-    ap (extension_plan mark (table_of t) (fresh_id (ids_of (take n list))) j) (sym (from list n j h k))
+asked : (cs : List Component) (j mark : ℕ) (rs : List TargetRecord) → j + 1 < length cs
+    → (let plan = extension_plan mark rs (fresh_id (ids_of cs)) j in
+    plan (get_or cs j unread ∷ (get_or cs (j + 1) unread ∷ drop (j + 2) cs)) ≡ plan (drop j cs))
+asked cs j mark rs h = ap (extension_plan mark rs (fresh_id (ids_of cs)) j) (sym (from cs j h))
 
 pub choosing-requires : goal.choosing-requires
 choosing-requires c =
-    let a = c.args in
     -- The component at position j has at most 16 stripes.
-    let few = few_stripes a.list a.n c.requires.2 unread a.j (omega (arith, c.requires.1)) (omega (arith, c.requires.0)) in
-    (rw c.granting-p.ensures few, c.requires.3)
+    let few = kind_few (kind_at c.args.components.now c.requires.2 unread c.args.j (omega (arith, c.requires.1))) in
+    (rw c.granting-grant.ensures few, c.requires.3)
 
 pub returns-then-not-c : goal.returns-then-not-c
 returns-then-not-c c =
     let a = c.args in
     c.choosing.ensures
-    ∙ rw c.granting-p.ensures
-    (sym (extension_chooses a.mark (table_of a.t) _ a.j _ _ _ (not-true _ c.if-not-c.true)))
-    ∙ asked a.list a.n a.j a.mark a.t c.requires.1 (omega (arith, c.requires.0))
-
-pub any_low-requires : goal.any_low-requires
-any_low-requires c = table_count c.args.t (c.well_formed.1.1.1.1.0.1.1.1.0.1.0.1) c.requires.3
+    ∙ rw c.granting-grant.ensures
+    (sym (extension_chooses a.mark a.table.now _ a.j _ _ _ c.if-not-c.true))
+    ∙ asked a.components.now a.j a.mark a.table.now c.requires.1
 
 pub returns-then-not-any_low : goal.returns-then-not-any_low
 returns-then-not-any_low c =
     let a = c.args in
-    c.granting-p.ensures
-    ∙ sym (extension_grants a.mark (table_of a.t) _ a.j _ _ _ (not-false _ c.if-not-c.false)
-    (sym c.any_low.ensures ∙ c.if-not-any_low.true))
-    ∙ asked a.list a.n a.j a.mark a.t c.requires.1 (omega (arith, c.requires.0))
+    ap Ok c.granting-grant.ensures
+    ∙ sym (extension_grants a.mark a.table.now _ a.j _ _ _ c.if-not-c.false
+    (rw (← c.objects.ensures) (sym c.any_low.ensures ∙ c.if-not-any_low.true)))
+    ∙ asked a.components.now a.j a.mark a.table.now c.requires.1
 
 pub low_plan-requires : goal.low_plan-requires
 low_plan-requires c =
-    let a = c.args in
     let r = c.requires in
-    let few = few_stripes a.list a.n r.2 unread a.j (omega (arith, r.1)) (omega (arith, r.0)) in
-    (r.0, omega (arith, r.1), r.2, few, r.3)
+    let few = kind_few (kind_at c.args.components.now r.2 unread c.args.j (omega (arith, r.1))) in
+    (r.0, r.1, r.2, few, r.3)
 
 pub returns : goal.returns
 returns c =
     let a = c.args in
     c.low_plan.ensures
-    ∙ sym (extension_low a.mark (table_of a.t) _ a.j _ _ _ (not-false _ c.if-not-c.false)
-    (sym c.any_low.ensures ∙ c.if-not-any_low.false))
-    ∙ asked a.list a.n a.j a.mark a.t c.requires.1 (omega (arith, c.requires.0))
-
-pub offset_bounds-list-j : goal.offset_bounds-list-j
-offset_bounds-list-j c = search rules
+    ∙ sym (extension_low a.mark a.table.now _ a.j _ _ _ c.if-not-c.false
+    (rw (← c.objects.ensures) (sym c.any_low.ensures ∙ c.if-not-any_low.false)))
+    ∙ asked a.components.now a.j a.mark a.table.now c.requires.1

@@ -1,46 +1,31 @@
 -- `growth::plans::follow_plan` meets its contract: an extension follows, or not.
-use Rattle.std.specs.Prelude.{ℕ, ◌+◌, ◌≤◌, ◌<◌, ◌≡◌, List, ◌∷◌, length, get_or}
-use Rattle.std.proofs.Math.Seq.{slice}
-use Rattle.std.proofs.Common.{arith, rules}
-use borrow.Author.Tests.{not-true, not-false}
-use Rattle.lists.specs.Slices.{slice_next, slice_done}
+use Rattle.std.specs.Prelude.{◌≡◌, List, [], ◌∷◌, get_or, drop}
+use Rattle.std.proofs.Common.{ap, sym, ◌∙◌, arith, drop_of_length-le}
+use Rattle.std.proofs.lemmas.List.{drop_more}
 use Rattle.layout.specs.declared.Component.{Component}
 use Rattle.layout.proofs.Unread.{unread}
 use Rattle.growth.specs.Plans.{follow_plan}
 use Rattle.growth.proofs.plans.follow_plan.Goals as goal
 
-pub returns-then-n-k : goal.returns-then-n-k
+pub returns-in-empty : goal.returns-in-empty
 unfolding follow_plan
-returns-then-n-k c =
+returns-in-empty c =
     let a = c.args in
-    rw (slice_done a.list a.n (a.j + 3) c.if-n-k.true, c.replacing.ensures)
+    let none : a.after.now ≡ [] = drop_of_length-le a.after.now {i = 0} (omega arith) in
+    c.replacing.ensures ∙ sym (ap (follow_plan a.j a.m) none)
 
--- The components after the two: the one at position j + 3 and the rest.
-next : (list : List Component) (n j : ℕ) → j + 3 < n → n ≤ length list
-    → slice (j + 3) n list ≡ get_or list (j + 3) unread ∷ slice (j + 3 + 1) n list
-next list n j h k = slice_next list n (j + 3) unread h (omega arith)
-
-pub returns-then-not-y : goal.returns-then-not-y
+pub returns-then-y : goal.returns-then-y
 unfolding follow_plan
-returns-then-not-y c =
+returns-then-y c =
     let a = c.args in
-    let third = get_or a.list (a.j + 3) unread in
-    rw (
-      next a.list a.n a.j c.if-n-k.false (omega arith),
-      not-true third.extension c.if-not-y.true,
-      c.replacing-then-not-y.ensures,
-    )
+    let some : a.after.now ≡ get_or a.after.now 0 unread ∷ drop 1 a.after.now =
+    drop_more a.after.now 0 unread c.in-len1-up.len_at_least in
+    c.granting.ensures ∙ sym (ap (follow_plan a.j a.m) some ∙ rw c.if-y.true)
 
-pub returns : goal.returns
+pub returns-else-y : goal.returns-else-y
 unfolding follow_plan
-returns c =
+returns-else-y c =
     let a = c.args in
-    let third = get_or a.list (a.j + 3) unread in
-    rw (
-      c.granting.ensures,
-      next a.list a.n a.j c.if-n-k.false (omega arith),
-      not-false third.extension c.if-not-y.false,
-    )
-
-pub offset_bounds-list-k : goal.offset_bounds-list-k
-offset_bounds-list-k c = search rules
+    let some : a.after.now ≡ get_or a.after.now 0 unread ∷ drop 1 a.after.now =
+    drop_more a.after.now 0 unread c.in-len1-up.len_at_least in
+    c.replacing-else-y.ensures ∙ sym (ap (follow_plan a.j a.m) some ∙ rw c.if-y.false)

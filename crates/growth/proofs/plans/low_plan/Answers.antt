@@ -1,36 +1,42 @@
 -- `growth::plans::low_plan` meets its contract: the extension is the last component, or not.
-use Prim.Native.Nat.{◌+◌, ◌<◌}
-use mathlib.Core.Path.{◌≡◌, ◌∙◌}
-use native.Mathlib.Omega.{arith}
-use Rattle.lists.specs.Slices.{slice_next, slice_done}
+use Rattle.std.specs.Prelude.{ℕ, ◌+◌, ◌-◌, ◌<◌, ◌≡◌, List, [], ◌∷◌, length, get_or, drop, take, Ok}
+use Rattle.std.proofs.Common.{ap, sym, ◌∙◌, arith, length-take, length-drop, drop_of_length-le}
+use Rattle.std.proofs.lemmas.List.{take_rest, drop_more, get_or-drop}
+use Rattle.layout.specs.declared.Component.{Component}
+use Rattle.layout.specs.FactLaws.{kind_few}
+use Rattle.layout.specs.ArrayLaws.{kind_at}
+use Rattle.layout.specs.Records.{ids_of}
 use Rattle.layout.proofs.Unread.{unread}
+use Rattle.growth_rules.specs.Parts.{fresh_id}
 use Rattle.growth.specs.Plans.{low_plan}
-use Rattle.growth.specs.PlanCases.{few_stripes}
 use Rattle.growth.proofs.plans.low_plan.Goals as goal
-
-pub returns-then-n-k : goal.returns-then-n-k
-unfolding low_plan
-returns-then-n-k c =
-    let a = c.args in
-    c.repeat_plan.ensures
-    ∙ rw (slice_done a.list a.n (a.j + 2) c.if-n-k.true, c.fresh_id-id.ensures)
 
 pub spill_plan-requires : goal.spill_plan-requires
 spill_plan-requires c =
-    let s = c in
-    let a = s.args in
-    let w : a.j + 2 < a.n = c.if-n-k.false in (
-      s.requires.0,
-      s.requires.1,
-      few_stripes a.list a.n s.requires.2 unread (a.j + 2) w (omega (arith, s.requires.0)),
-      s.requires.4,
-    )
+    let cs = c.args.components.now in
+    let k = c.args.j + 2 in
+    let h : k + 0 < length cs = omega (arith, length-take (length cs - k) (drop k cs), length-drop k cs) in
+    let few = kind_few (kind_at cs c.requires.2 unread (k + 0) h) in
+    (omega (arith, c.requires.0, c.requires.1), rw (take_rest cs k, get_or-drop k cs 0 unread) few, c.requires.4)
 
-pub returns : goal.returns
+pub returns-in-empty : goal.returns-in-empty
 unfolding low_plan
-returns c =
-    let s = c in
-    let a = s.args in
-    let three : a.j + 2 + 1 ≡ a.j + 3 = omega arith in
-    let next = slice_next a.list a.n (a.j + 2) unread c.if-n-k.false (omega (arith, s.requires.0, c.if-n-k.false)) in
-    c.spill_plan.ensures ∙ rw (next, three)
+returns-in-empty c =
+    let a = c.args in
+    let cs = a.components.now in
+    let k = a.j + 2 in
+    let none : drop k cs ≡ [] =
+    drop_of_length-le cs (omega (arith, length-take (length cs - k) (drop k cs), length-drop k cs)) in
+    ap Ok (c.repeat_plan.ensures ∙ rw c.fresh_id.ensures)
+    ∙ sym (ap (low_plan a.mark a.table.now (fresh_id (ids_of cs)) a.j a.c a.x) none)
+
+pub returns-in-len1-up : goal.returns-in-len1-up
+unfolding low_plan
+returns-in-len1-up c =
+    let a = c.args in
+    let cs = a.components.now in
+    let k = a.j + 2 in
+    let h : 0 < length (drop k cs) = omega (arith, length-take (length cs - k) (drop k cs), length-drop k cs) in
+    let some : drop k cs ≡ get_or (drop k cs) 0 unread ∷ drop 1 (drop k cs) = drop_more (drop k cs) 0 unread h in
+    (rw (take_rest cs k, take_rest (drop k cs) 1) at c.spill_plan.ensures)
+    ∙ sym (ap (low_plan a.mark a.table.now (fresh_id (ids_of cs)) a.j a.c a.x) some)

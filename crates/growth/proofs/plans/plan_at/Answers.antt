@@ -1,75 +1,97 @@
 -- `growth::plans::plan_at` meets its contract: the component at the position is an extension, or not.
-use Prim.Native.Nat.{◌<◌}
-use mathlib.Core.Path.{◌≡◌, sym, ap, ◌∙◌}
-use mathlib.Core.Bool.{true}
-use native.Mathlib.Omega.{arith}
-use lib.ListN.{get_or}
-use borrow.Author.Tests.{not-true, not-false}
+use Rattle.std.specs.Prelude.{ℕ, ◌≤◌, ◌<◌, ◌≡◌, List, true, length, get_or, Err}
+use Rattle.std.proofs.Common.{sym, ap, ◌∙◌, arith}
+use Rattle.std.proofs.lemmas.Bool.{not-true, not-false}
+use borrow.Author.Rules.{rules}
+use Rattle.lists.specs.Slices.{any_default}
 use Rattle.layout.specs.declared.Component.{Component}
+use Rattle.layout.specs.declared.Layout.{Layout}
 use Rattle.layout.specs.Records.{no_component, view}
 use Rattle.layout.specs.Facts.{Valid}
 use Rattle.layout.specs.FactLaws.{valid_facts, kind_few}
-use Rattle.layout.specs.ArrayLaws.{component_at_lem, component_kind}
+use Rattle.layout.specs.ArrayLaws.{kind_at}
 use Rattle.layout.proofs.Unread.{unread}
-use Rattle.free_table.specs.Table.{table_of}
 use Rattle.growth_rules.specs.StepLaws.{extension_after}
-use Rattle.growth.specs.Plans.{held_plan}
+use Rattle.growth.specs.Plans.{plan_of, held_plan}
 use Rattle.growth.specs.PlanCases.{at_extension, at_other}
 use Rattle.growth.proofs.plans.plan_at.Goals as goal
 
-facts : (c : goal.After-list-1) → Valid c.args.l
-facts c = valid_facts c.args.l c.requires.0
+-- Component i of a valid layout, which code reads from a list that is the same.
+module _ (l : Layout) (v : Valid l) (cs : List Component) (same : cs ≡ view l) (i : ℕ) (h : i < l.count) where
+  below : i < length (view l)
+  below = omega (arith, v.whole)
 
--- The component at the position is an extension,
-is_extension_lem : (c : goal.Else-not-c) → let a = c.args in
-    (get_or (view a.l) a.i no_component).extension ≡ true
-is_extension_lem c =
-    let s = c in
-    let x = get_or s.args.l.components s.args.i unread in
-    ap (λ (d : Component). d.extension) (component_at_lem s.args.l (facts s.before.before.before) unread s.args.i s.requires.1)
-    ∙ not-false x.extension c.if-not-c.false
+  read : get_or cs i unread ≡ get_or (view l) i no_component
+  read = rw same (any_default (view l) i unread no_component below)
 
--- so that it is not first.
-not_first : (c : goal.Else-not-c) → 0 < c.args.i
-not_first c =
-    let s = c in
-    let v = facts s.before.before.before in
-    extension_after _ 0 (view s.args.l) no_component s.args.i v.keeps.linked
-    (omega (arith, v.whole, s.requires.1)) (is_extension_lem c)
+  few : (get_or cs i unread).stripe_count ≤ 16
+  few = rw same (kind_few (kind_at (view l) v.keeps.fields unread i below))
+
+  -- It is an extension,
+  module _ (e : (get_or cs i unread).extension ≡ true) where
+    is_extension_lem : (get_or (view l) i no_component).extension ≡ true
+    is_extension_lem = ap (λ (d : Component). d.extension) (sym read) ∙ e
+
+    -- so that it is not first.
+    not_first : 0 < i
+    not_first = extension_after _ 0 (view l) no_component i v.keeps.linked below is_extension_lem
+
+pub components-components-requires : goal.components-components-requires
+components-components-requires c = (valid_facts c.args.l.now c.requires.0).few
+
+pub bounds-components-i : goal.bounds-components-i
+bounds-components-i c =
+    omega (arith, (valid_facts c.args.l.now c.requires.0).whole, ap length c.components-components.ensures, c.requires.1)
+
+pub offset_bounds-components-i : goal.offset_bounds-components-i
+offset_bounds-components-i c = omega (arith, (valid_facts c.args.l.now c.requires.0).few, c.requires.1)
 
 pub held_plan-requires : goal.held_plan-requires
 held_plan-requires c =
-    let s = c in
-    (kind_few (component_kind s.args.l (facts s.before.before.before) unread s.args.i s.requires.1), s.requires.2)
+    let l = c.args.l.now in
+    (few l (valid_facts l c.requires.0) _ c.components-components.ensures c.args.i c.requires.1, c.requires.2)
 
 pub returns-then-not-c : goal.returns-then-not-c
 returns-then-not-c c =
-    let s = c in
-    let a = s.args in
-    let x = get_or a.l.components a.i unread in
-    let same = component_at_lem a.l (facts s.before.before.before.before) unread a.i s.requires.1 in
-    c.held_plan.ensures ∙ ap (held_plan a.mark (table_of a.t) a.i) (sym same)
-    ∙ sym (at_other a.mark (table_of a.t) a.i (view a.l)
-    (ap (λ (d : Component). d.extension) same ∙ not-true x.extension c.if-not-c.true))
+    let a = c.args in
+    let l = a.l.now in
+    let same = read l (valid_facts l c.requires.0) _ c.components-components.ensures a.i c.requires.1 in
+    c.held_plan.ensures ∙ ap (held_plan a.mark a.table.now a.i) same
+    ∙ sym (at_other a.mark a.table.now a.i (view l)
+    (ap (λ (d : Component). d.extension) (sym same) ∙ not-true _ c.if-not-c.true))
+
+pub overflow_sub-i : goal.overflow_sub-i
+overflow_sub-i c =
+    let l = c.args.l.now in
+    let k =
+    not_first l (valid_facts l c.requires.0) _ c.components-components.ensures c.args.i c.requires.1
+    (not-false _ c.if-not-c.false) in
+    omega (arith, k)
 
 pub extension_plan-requires : goal.extension_plan-requires
 extension_plan-requires c =
-    let s = c in
-    let v = facts s.before.before.before in
-    (v.few, omega (arith, not_first c, s.requires.1), v.keeps.fields, s.requires.2)
+    let l = c.args.l.now in
+    let v = valid_facts l c.requires.0 in
+    let e = c.components-components.ensures in
+    let k = not_first l v _ e c.args.i c.requires.1 (not-false _ c.if-not-c.false) in
+    rw e (omega (arith, v.few, v.whole), omega (arith, k, v.whole, c.requires.1), v.keeps.fields, c.requires.2)
+
+-- The plan of an extension.
+pub returns-in_err-change : goal.returns-in_err-change
+returns-in_err-change c =
+    let a = c.args in
+    let l = a.l.now in
+    let e = c.components-components.ensures in
+    let x =
+    is_extension_lem l (valid_facts l c.requires.0) _ e a.i c.requires.1 (not-false _ c.if-not-c.false) in
+    let r : c.from_residual.result ≡ Err c.in_err-change.field-0.0 = search rules in
+    r ∙ ap plan_of (rw e at c.in_err-change.ensures) ∙ sym (at_extension a.mark a.table.now a.i (view l) x)
 
 pub returns : goal.returns
 returns c =
-    let s = c in
-    let a = s.args in
-    c.extension_plan.ensures
-    ∙ sym (at_extension a.mark (table_of a.t) a.i (view a.l) (is_extension_lem c.before))
-
-pub offset_bounds-list-i : goal.offset_bounds-list-i
-offset_bounds-list-i c = omega (arith, (facts c).few, c.requires.1)
-
-pub bounds-list-i : goal.bounds-list-i
-bounds-list-i c = omega (arith, (facts c).few, c.requires.1)
-
-pub overflow_sub-i : goal.overflow_sub-i
-overflow_sub-i c = omega (arith, not_first c)
+    let a = c.args in
+    let l = a.l.now in
+    let e = c.components-components.ensures in
+    let x =
+    is_extension_lem l (valid_facts l c.requires.0) _ e a.i c.requires.1 (not-false _ c.if-not-c.false) in
+    ap plan_of (rw e at c.in_ok-change.ensures) ∙ sym (at_extension a.mark a.table.now a.i (view l) x)

@@ -4,7 +4,8 @@ ghost use Rattle.layout.specs.Records.{pack_objects};
 ghost use Rattle.page.specs.Form.{component_end};
 ghost use Rattle.page.specs.Content.{object_at, objects_at, component_at};
 
-use crate::{Head, form};
+use crate::form;
+use bytes_le::{LittleEndian, flags};
 use layout::{Component, NO_OBJECT, Object};
 
 // The object record at the place.
@@ -13,8 +14,8 @@ pub fn object_at(s: &[u8], at: usize) -> Object
     ensures { result ≡ object_at s.now at }
 {
     Object {
-        target: bytes_le::u32_at(s, at + 4),
-        number: bytes_le::u64_at(s, at + 8),
+        target: u32::read_at(s, at + 4),
+        number: u64::read_at(s, at + 8),
     }
 }
 
@@ -37,17 +38,17 @@ pub fn component_at(s: &[u8], at: usize) -> Component
 {
     let records = form::record_count(s, at).min(16);
     let objects = objects_at(s, at + 40, records);
-    let flags = bytes_le::u16_at(s, at + 2);
+    let word = u16::read_at(s, at + 2);
     Component {
-        init: bytes_le::flags::first(flags),
-        extension: bytes_le::flags::second(flags),
-        id: bytes_le::u16_at(s, at + 4),
-        stripe_count: bytes_le::u16_at(s, at + 6),
-        stripe_size: bytes_le::u32_at(s, at + 8),
-        first_target: bytes_le::i32_at(s, at + 12),
-        begin: bytes_le::u64_at(s, at + 16),
-        end: bytes_le::u64_at(s, at + 24),
-        extension_size: bytes_le::u64_at(s, at + 32),
+        init: flags::is_set(word, 0),
+        extension: flags::is_set(word, 1),
+        id: u16::read_at(s, at + 4),
+        stripe_count: u16::read_at(s, at + 6),
+        stripe_size: u32::read_at(s, at + 8),
+        first_target: i32::read_at(s, at + 12),
+        begin: u64::read_at(s, at + 16),
+        end: u64::read_at(s, at + 24),
+        extension_size: u64::read_at(s, at + 32),
         objects,
     }
 }

@@ -1,9 +1,9 @@
 // Records and heads of pages, written into a lent buffer.
 ghost use Rattle.std.specs.Prelude.{◌≡◌, ◌+◌, ◌*◌, ◌≤◌, length};
 ghost use Rattle.std.proofs.lemmas.List.Edits.{sets};
-ghost use Rattle.page.specs.Bytes.{object_bytes, objects_bytes, words, longs};
-ghost use Rattle.page.specs.Bytes.{field_bytes, component_bytes, size_of};
+ghost use Rattle.page.specs.Bytes.{object_bytes, objects_bytes, field_bytes, component_bytes, size_of};
 
+use bytes_le::{LittleEndian, flags};
 use layout::{Component, Object};
 
 // Writes an object record at the place.
@@ -11,10 +11,10 @@ fn put_object(buffer: &mut [u8], at: usize, object: Object)
     requires { at + 16 ≤ length buffer.old }
     ensures { buffer.new ≡ sets buffer.old at (object_bytes object) }
 {
-    bytes_le::put_u16(buffer, at, crate::OBJECT_MARK);
-    bytes_le::put_u16(buffer, at + 2, 0);
-    bytes_le::put_u32(buffer, at + 4, object.target);
-    bytes_le::put_u64(buffer, at + 8, object.number);
+    crate::OBJECT_MARK.write_at(buffer, at);
+    0u16.write_at(buffer, at + 2);
+    object.target.write_at(buffer, at + 4);
+    object.number.write_at(buffer, at + 8);
 }
 
 // Writes object records, one after the other, from the place on.
@@ -27,45 +27,21 @@ fn put_objects(buffer: &mut [u8], at: usize, objects: &[Object])
     }
 }
 
-// Writes four numbers of two bytes from the place on.
-pub(crate) fn put_words(buffer: &mut [u8], at: usize, a: u16, b: u16, c: u16, d: u16)
-    requires { at + 8 ≤ length buffer.old }
-    ensures { buffer.new ≡ sets buffer.old at (words a b c d) }
-{
-    bytes_le::put_u16(buffer, at, a);
-    bytes_le::put_u16(buffer, at + 2, b);
-    bytes_le::put_u16(buffer, at + 4, c);
-    bytes_le::put_u16(buffer, at + 6, d);
-}
-
-// Writes three numbers of eight bytes from the place on.
-fn put_longs(buffer: &mut [u8], at: usize, a: u64, b: u64, c: u64)
-    requires { at + 24 ≤ length buffer.old }
-    ensures { buffer.new ≡ sets buffer.old at (longs a b c) }
-{
-    bytes_le::put_u64(buffer, at, a);
-    bytes_le::put_u64(buffer, at + 8, b);
-    bytes_le::put_u64(buffer, at + 16, c);
-}
-
 // Writes the 40 bytes of a component at the place.
 fn put_fields(buffer: &mut [u8], at: usize, c: &Component)
     requires { at + 40 ≤ length buffer.old }
     ensures { buffer.new ≡ sets buffer.old at (field_bytes c.now) }
 {
-    let flags = bytes_le::flags::word(c.init, c.extension);
-    let target = bytes_le::bits_of(c.first_target);
-    put_words(
-        buffer,
-        at,
-        crate::COMPONENT_MARK,
-        flags,
-        c.id,
-        c.stripe_count,
-    );
-    bytes_le::put_u32(buffer, at + 8, c.stripe_size);
-    bytes_le::put_u32(buffer, at + 12, target);
-    put_longs(buffer, at + 16, c.begin, c.end, c.extension_size);
+    let word = flags::word(c.init, c.extension);
+    crate::COMPONENT_MARK.write_at(buffer, at);
+    word.write_at(buffer, at + 2);
+    c.id.write_at(buffer, at + 4);
+    c.stripe_count.write_at(buffer, at + 6);
+    c.stripe_size.write_at(buffer, at + 8);
+    c.first_target.write_at(buffer, at + 12);
+    c.begin.write_at(buffer, at + 16);
+    c.end.write_at(buffer, at + 24);
+    c.extension_size.write_at(buffer, at + 32);
 }
 
 // The number of bytes that a component takes in a page.

@@ -4,12 +4,14 @@ ghost use Rattle.page.specs.Form.{object_form, objects_form, component_marks, co
 ghost use Rattle.page.specs.Form.{records_at, head_form, page_form};
 ghost use Rattle.page.specs.Walked.{Walks, Walked};
 
+use bytes_le::{LittleEndian, flags};
+
 // Has the object record at the place its form?
 fn object_form(s: &[u8], at: usize) -> bool
     requires { at + 16 ≤ length s.now }
     ensures { result ≡ object_form s.now at }
 {
-    (bytes_le::u16_at(s, at) == crate::OBJECT_MARK) & (bytes_le::u16_at(s, at + 2) == 0)
+    (u16::read_at(s, at) == crate::OBJECT_MARK) & (u16::read_at(s, at + 2) == 0)
 }
 
 // Have the n object records from the place on their form?
@@ -32,8 +34,8 @@ pub fn component_marks(s: &[u8], at: usize) -> bool
     requires { at + 40 ≤ length s.now }
     ensures { result ≡ component_marks s.now at }
 {
-    let flags = bytes_le::u16_at(s, at + 2);
-    (bytes_le::u16_at(s, at) == crate::COMPONENT_MARK) & bytes_le::flags::only_first_two(flags)
+    let word = u16::read_at(s, at + 2);
+    (u16::read_at(s, at) == crate::COMPONENT_MARK) & flags::only_first_bits(word, 2)
 }
 
 // The number of object records after the component at the place: the stripe count if init is set, else none.
@@ -41,8 +43,8 @@ pub fn record_count(s: &[u8], at: usize) -> usize
     requires { at + 40 ≤ length s.now }
     ensures { (result ≡ records_at s.now at) × (result < 65536) }
 {
-    if bytes_le::flags::first(bytes_le::u16_at(s, at + 2)) {
-        bytes_le::u16_at(s, at + 6) as usize
+    if flags::is_set(u16::read_at(s, at + 2), 0) {
+        u16::read_at(s, at + 6) as usize
     } else {
         0
     }
@@ -53,11 +55,11 @@ pub fn head_form(s: &[u8]) -> bool
     requires { 16 ≤ length s.now }
     ensures { result ≡ head_form s.now }
 {
-    let flags = bytes_le::u16_at(s, 2);
-    (bytes_le::u16_at(s, 0) == crate::PAGE_MARK)
-        & bytes_le::flags::only_first(flags)
-        & (1 <= bytes_le::u16_at(s, 6))
-        & (bytes_le::u32_at(s, 12) == 0)
+    let word = u16::read_at(s, 2);
+    (u16::read_at(s, 0) == crate::PAGE_MARK)
+        & flags::only_first_bits(word, 1)
+        & (1 <= u16::read_at(s, 6))
+        & (u32::read_at(s, 12) == 0)
 }
 
 // Stores a place at position i, if there is one.
@@ -109,7 +111,7 @@ pub fn walk(
     if limit < 16 || !head_form(s) {
         return None;
     }
-    let count = bytes_le::u16_at(s, 6) as usize;
+    let count = u16::read_at(s, 6) as usize;
     let mut at: usize = 16;
     for i in 0..count {
         let end = end_of_component(s, at, limit)?;

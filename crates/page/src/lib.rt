@@ -5,6 +5,8 @@
 ghost use Rattle.std.specs.Prelude.{◌≡◌, ◌≤◌, length};
 ghost use Rattle.std.proofs.lemmas.List.Edits.{sets};
 
+use bytes_le::{LittleEndian, flags};
+
 pub mod decode;
 pub mod encode;
 pub mod form;
@@ -36,10 +38,10 @@ impl Head {
         ensures { result ≡ head_of page.now }
     {
         Head {
-            more: bytes_le::flags::first(bytes_le::u16_at(page, 2)),
-            number: bytes_le::u16_at(page, 4),
-            count: bytes_le::u16_at(page, 6),
-            generation: bytes_le::u32_at(page, 8),
+            more: flags::is_set(u16::read_at(page, 2), 0),
+            number: u16::read_at(page, 4),
+            count: u16::read_at(page, 6),
+            generation: u32::read_at(page, 8),
         }
     }
 
@@ -48,9 +50,12 @@ impl Head {
         requires { 16 ≤ length buffer.old }
         ensures { buffer.new ≡ sets buffer.old 0 (head_bytes self) }
     {
-        let flags = bytes_le::flags::word(self.more, false);
-        encode::put_words(buffer, 0, PAGE_MARK, flags, self.number, self.count);
-        bytes_le::put_u32(buffer, 8, self.generation);
-        bytes_le::put_u32(buffer, 12, 0);
+        let word = flags::word(self.more, false);
+        PAGE_MARK.write_at(buffer, 0);
+        word.write_at(buffer, 2);
+        self.number.write_at(buffer, 4);
+        self.count.write_at(buffer, 6);
+        self.generation.write_at(buffer, 8);
+        0u32.write_at(buffer, 12);
     }
 }

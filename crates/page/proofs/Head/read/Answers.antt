@@ -5,4 +5,4 @@ use Rattle.page.proofs.Head.read.Goals as goal
 pub returns : goal.returns
 unfolding head_of
 returns c =
-    rw (← c.u16_at.ensures, ← c.first.ensures, ← c.u16_at-2.ensures, ← c.u16_at-3.ensures, ← c.u32_at.ensures)
+    rw (← c.read_at.ensures, ← c.is_set.ensures, ← c.read_at-2.ensures, ← c.read_at-3.ensures, ← c.read_at-4.ensures)

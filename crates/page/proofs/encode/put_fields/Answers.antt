@@ -1,9 +1,6 @@
--- `page::encode::put_fields` meets its contract: each group of fields is written where the one before ends.
-use mathlib.Core.Path.{ap, ◌∙◌}
-use mir.Syntax.{w32}
-use mir.Facts.{to_z-of_z}
-use borrow.Author.Rules.{rules}
-use Rattle.bytes_le.specs.Numbers.{bits_of}
+-- `page::encode::put_fields` meets its contract: each field is written where the one before ends.
+use Rattle.std.specs.Int.{w32}
+use Rattle.std.proofs.Common.{rules, to_z-of_z}
 use Rattle.page.proofs.Stores.{fields_stored}
 use Rattle.page.proofs.encode.put_fields.Goals as goal
 
@@ -11,6 +8,16 @@ pub returns : goal.returns
 returns c =
     let a = c.args in
     let signed = to_z-of_z {w = w32} {z = a.c.now.first_target} (search rules) in
-    rw (c.put_longs.ensures, c.put_u32-2.ensures, c.put_u32.ensures, c.put_words.ensures)
-    (fields_stored a.buffer.now a.at a.c.now c.word-flags.result c.bits_of-target.result c.word-flags.ensures
-    (c.bits_of-target.ensures ∙ ap bits_of signed))
+    rw (
+      c.write_at-9.ensures,
+      c.write_at-8.ensures,
+      c.write_at-7.ensures,
+      c.write_at-6.ensures,
+      c.write_at-5.ensures,
+      c.write_at-4.ensures,
+      c.write_at-3.ensures,
+      c.write_at-2.ensures,
+      c.write_at.ensures,
+      signed,
+    )
+    (fields_stored a.buffer.now a.at a.c.now c.word-word.result c.word-word.ensures)

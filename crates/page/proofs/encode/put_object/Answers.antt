@@ -4,8 +4,5 @@ use Rattle.page.proofs.encode.put_object.Goals as goal
 
 pub returns : goal.returns
 returns c =
-    let number = c in let target = number in
-    let zeros = target in let mark = zeros in
-    let a = mark.args in
-    rw (number.put_u64.ensures, target.put_u32.ensures, zeros.put_u16-2.ensures, mark.put_u16.ensures)
-    (object_stored a.buffer.now a.at a.object)
+    rw (c.write_at-4.ensures, c.write_at-3.ensures, c.write_at-2.ensures, c.write_at.ensures)
+    (object_stored c.args.buffer.now c.args.at c.args.object)

@@ -4,4 +4,4 @@ use Rattle.page.proofs.form.component_marks.Goals as goal
 
 pub returns : goal.returns
 unfolding component_marks
-returns c = rw (← c.u16_at-flags.ensures, ← c.only_first_two.ensures, ← c.u16_at.ensures)
+returns c = rw (← c.read_at-word.ensures, ← c.only_first_bits.ensures, ← c.read_at.ensures)

@@ -5,11 +5,10 @@ use Rattle.page.proofs.form.head_form.Goals as goal
 pub returns : goal.returns
 unfolding head_form
 returns c =
-    let f = c in
     rw (
-      ← f.u16_at-flags.ensures,
-      ← c.only_first.ensures,
-      ← c.u16_at.ensures,
-      ← c.u16_at-2.ensures,
-      ← c.u32_at.ensures,
+      ← c.read_at-word.ensures,
+      ← c.only_first_bits.ensures,
+      ← c.read_at.ensures,
+      ← c.read_at-2.ensures,
+      ← c.read_at-3.ensures,
     )

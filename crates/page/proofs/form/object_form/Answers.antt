@@ -4,4 +4,4 @@ use Rattle.page.proofs.form.object_form.Goals as goal
 
 pub returns : goal.returns
 unfolding object_form
-returns c = rw (← c.u16_at.ensures, ← c.u16_at-2.ensures)
+returns c = rw (← c.read_at.ensures, ← c.read_at-2.ensures)

@@ -8,20 +8,18 @@ use Rattle.page.specs.Form.{records_at}
 use borrow.Author.Rules.{rules}
 use Rattle.page.proofs.form.record_count.Goals as goal
 
-pub returns-then-first : goal.returns-then-first
+pub returns-then-is_set : goal.returns-then-is_set
 unfolding records_at
-returns-then-first c =
+returns-then-is_set c =
     let a = c.args in
-    let f = c in
     let t : is_set 0 (u16_at a.s.now (a.at + 2)) ≡ true =
-    ap (is_set 0) (sym f.u16_at.ensures) ∙ sym f.first.ensures ∙ c.if-first.true in
-    (rw t c.u16_at-then-first.ensures, search rules)
+    ap (is_set 0) (sym c.read_at.ensures) ∙ sym c.is_set.ensures ∙ c.if-is_set.true in
+    (rw t c.read_at-then-is_set.ensures, search rules)
 
-pub returns-else-first : goal.returns-else-first
+pub returns-else-is_set : goal.returns-else-is_set
 unfolding records_at
-returns-else-first c =
+returns-else-is_set c =
     let a = c.args in
-    let f = c in
     let t : is_set 0 (u16_at a.s.now (a.at + 2)) ≡ false =
-    ap (is_set 0) (sym f.u16_at.ensures) ∙ sym f.first.ensures ∙ c.if-first.false in
+    ap (is_set 0) (sym c.read_at.ensures) ∙ sym c.is_set.ensures ∙ c.if-is_set.false in
     (rw t refl, search rules)

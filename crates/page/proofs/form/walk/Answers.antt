@@ -31,10 +31,10 @@ loop-i-init c =
       begun = omega arith;
       within = omega arith;
       positions = c.requires.4;
-      formed = rw c.u16_at-count.ensures (form_start a.limit a.s.now e (omega arith));
-      ends = rw (c.u16_at-count.ensures, sub-zero);
+      formed = rw c.read_at-count.ensures (form_start a.limit a.s.now e (omega arith));
+      ends = rw (c.read_at-count.ensures, sub-zero);
       kept = refl;
-      stored = rw (c.u16_at-count.ensures, sub-zero, add-zero);
+      stored = rw (c.read_at-count.ensures, sub-zero, add-zero);
     }
 
 pub loop-i-preserved : goal.loop-i-preserved
@@ -42,7 +42,7 @@ loop-i-preserved c =
     let a = c.args in
     let s = a.s.now in
     let p = c.loop-i in
-    let n = c.u16_at-count.result in
+    let n = c.read_at-count.result in
     let k = p.invariant in
     let e = ended _ _ c.in_ok-end.end c.in_ok-end.ensures in
     record {

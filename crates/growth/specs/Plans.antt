@@ -1,5 +1,6 @@
 -- The plans that the code makes of a step, and what a plan says of the components of a layout.
 use Rattle.std.specs.Prelude.{ℕ, ◌+◌, ◌-◌, ◌≤◌, ◌≡◌, List, [], ◌∷◌, ◌++◌, Option, Some, None, is_some, Result, Ok, Err, Bool, cond, ◌||◌, ltb, eqb, length, take, drop, get_or}
+use Rattle.std.specs.Result.{result_unwrap_or}
 use Rattle.refusals.specs.declared.Refusal.{Refusal}
 use Rattle.refusals.specs.declared.Refusal.TheVariants.{TooFewTargets}
 use Rattle.layout.specs.declared.Object.{Object}
@@ -85,11 +86,6 @@ abbrev pub on_objects : Change → List Object → Change
 on_objects p os =
     record { at = p.at; old = p.old; made = made_init os p.made; left = p.left; chosen = length os }
 
--- A change, or another if it is refused.
-abbrev pub change_or : Result Change Refusal → Change → Change
-change_or (Ok p) q = p
-change_or (Err e) q = q
-
 -- The component m, which begins where the extension at position j + 1 began, before the components cs.
 unfoldable pub follow_plan : ℕ → Component → List Component → Change
 follow_plan j m [] = replacing (j + 1) 2 m
@@ -116,7 +112,7 @@ module _ (mark : ℕ) (rs : List TargetRecord) where
     -- The repeat of c, at position j, or the forced extension.
     unfoldable pub repeat_plan : Change
     repeat_plan =
-        change_or (choosing_plan (granting (j + 1) 1 (repeat_base new x.begin c) x x.begin)) (granting j 2 c x x.begin)
+        result_unwrap_or (choosing_plan (granting (j + 1) 1 (repeat_base new x.begin c) x x.begin)) (granting j 2 c x x.begin)
 
     -- A target of c is low.
     unfoldable pub low_plan : List Component → Result Change Refusal

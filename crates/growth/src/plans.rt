@@ -73,7 +73,7 @@ fn held_plan(
     requires { (c.stripe_count ≤ 16) × (table_ok table.now ≡ true) }
     ensures { result ≡ held_plan mark table.now i c }
 {
-    if c.init | c.extension {
+    if c.init || c.extension {
         return Ok(None);
     }
     let change = choosing(replacing(i, 1, c), mark, table)?;
@@ -130,10 +130,9 @@ fn repeat_plan(
     ensures { result ≡ repeat_plan mark table.now id j c x }
 {
     let base = components::repeat_base(c, id, x.begin);
-    match choosing(granting(j + 1, 1, base, x, x.begin), mark, table) {
-        Ok(change) => change,
-        Err(_) => granting(j, 2, c, x, x.begin),
-    }
+    let repeat = granting(j + 1, 1, base, x, x.begin);
+    let grant = granting(j, 2, c, x, x.begin);
+    choosing(repeat, mark, table).unwrap_or(grant)
 }
 
 // The extension x at position j + 1 holds the offset, and c before it, which is init, has a low target.

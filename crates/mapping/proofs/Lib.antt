@@ -1,9 +1,9 @@
 pub mod Firsts
-pub mod Components
+pub mod LastEnd
 pub mod Found
 pub mod Owned
 pub mod UnitSteps
-pub mod PutSteps
+pub mod CutSteps
 pub mod BackLaws
 pub mod CutLaws
 pub mod CutTheorem

@@ -9,7 +9,6 @@ use lib.Dec.{ltb, leb}
 use lib.ListN.{length, get_or}
 use borrow.Author.Tests.{ltb-true, ltb-false, lt-ltb, le-ltb, leb-true, le-leb}
 use Rattle.lists.specs.Bools.{cond_elim}
-use Rattle.lists.specs.Slices.{any_default}
 use Rattle.lists.specs.Tests.{conjunction_at}
 use Rattle.stripe.specs.Stripe.{file_byte, file_byte_below}
 use Rattle.layout.specs.declared.Object.{Object}
@@ -63,19 +62,19 @@ module _ {cs : List Component} (k : Keeps false cs) (o : Object) (p : ℕ) where
   not_owned h = rw (owner_elem o cs, le-ltb (owner_of o cs) (length cs) h)
 
   -- The first component that has it is at position i.
-  module _ (d : Component) (i : ℕ) (h : i < length cs) (at : owner_of o cs ≡ i) where
-    owner_read : owner o cs ≡ get_or cs i d
-    owner_read = rw at (any_default cs i no_component d h)
+  module _ (i : ℕ) (h : i < length cs) (at : owner_of o cs ≡ i) where
+    owner_read : owner o cs ≡ get_or cs i no_component
+    owner_read = rw at
 
     -- It is init.
-    pub owner_init : IsInit (get_or cs i d)
+    pub owner_init : IsInit (get_or cs i no_component)
     owner_init =
-        kind_init (kind_at cs k.fields d i h)
-        (elem_init o (get_or cs i d) (rw owner_read at (owner_has o cs (omega arith))))
+        kind_init (kind_at cs k.fields no_component i h)
+        (elem_init o (get_or cs i no_component) (rw owner_read at (owner_has o cs (omega arith))))
 
     -- The object is its stripe j: by its extent the file byte of byte p is given or refused.
-    pub owned : (j : ℕ) → j ≡ position_in o (records_of (get_or cs i d)) →
-        let c = get_or cs i d in
+    pub owned : (j : ℕ) → j ≡ position_in o (records_of (get_or cs i no_component)) →
+        let c = get_or cs i no_component in
         let b = file_byte c.stripe_size c.stripe_count j p in
         answer (hidden_refusal c.begin c.end b) b ≡ back_in (in_object o p) cs
     unfolding back_in back_refusal byte_of file_byte_in

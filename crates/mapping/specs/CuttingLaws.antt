@@ -14,7 +14,7 @@ use Rattle.layout.specs.Facts.{IsInit, Fields}
 use Rattle.layout.specs.FactLaws.{kind_init}
 use Rattle.mapping.specs.declared.Span.{Span}
 use Rattle.mapping.specs.declared.Piece.{Piece}
-use Rattle.mapping.specs.Answers.{gives, refuses, answer}
+use Rattle.mapping.specs.Answers.{Answer, gives, refuses, answer}
 use Rattle.mapping.specs.AnswerLaws.{gives_or_refuses, answer_gives}
 use Rattle.mapping.specs.Spans.{spans_of}
 use Rattle.mapping.specs.Cutting.{unit_count, part_begin, part_end, part_count, part_pieces, pieces_of, piece_count}
@@ -96,6 +96,23 @@ module _ (end a m n : ℕ) (xs : List Span) where
         pub refused_12 : (t : Bool) → too_many n pieces ≡ t → cond t 12 0 ≡ refusal_by end a m n xs
         unfolding refusal_by
         refused_12 t e = rw (not_past, before, init, ← counted, e)
+
+      -- What is asked of the components gives 11, or the number of pieces.
+      abbrev asked : Answer ℕ
+      asked = answer (cond (any_of (not_init_asked a (a + m)) xs) 11 0) (piece_count a (a + m) xs)
+
+      pub asked_refused : (r : ℕ) → refuses r ≡ asked → refuses r ≡ answer (refusal_by end a m n xs) (piece_count a (a + m) xs)
+      asked_refused r e =
+          bool_cases (any_of (not_init_asked a (a + m)) xs)
+          (λ t. rw t at e ∙ rw (← refused_11 t))
+          (λ t. absurd (gives_or_refuses _ r (sym (rw t at e))))
+
+      pub asked_given : (k : ℕ) → gives k ≡ asked
+          → (any_of (not_init_asked a (a + m)) xs ≡ false) × (k ≡ piece_count a (a + m) xs)
+      asked_given k e =
+          bool_cases (any_of (not_init_asked a (a + m)) xs)
+          (λ t. absurd (gives_or_refuses k 11 (rw t at e)))
+          (λ t. (t, sym (answer_gives 0 _ k (sym (rw t at e))).1))
 
 -- Under the number of a refusal all lent numbers stay.
 room_refused : (n : ℕ) (ps : List Piece) (room : List ℕ) → (n ≡ 0 → ⊥) → room ≡ room_after n ps room

@@ -2,6 +2,7 @@ pub mod Answers
 pub mod Homes
 pub mod Lookup
 pub mod Back
+pub mod Components
 pub mod Spans
 pub mod Cutting
 pub mod CutPlaces

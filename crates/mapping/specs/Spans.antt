@@ -1,5 +1,5 @@
 -- A component as cutting sees it, and what cutting takes as known of it.
-use Rattle.std.specs.Prelude.{◌≤◌, ◌≡◌, List, [], ◌∷◌, map, length, true, false}
+use Rattle.std.specs.Prelude.{◌≤◌, ◌≡◌, List, [], ◌∷◌, map, true, false}
 use Rattle.layout.specs.declared.Component.{Component}
 use Rattle.mapping.specs.declared.Span.{Span}
 
@@ -32,8 +32,3 @@ Cuttable c = c.init ≡ true → (65536 ≤ c.stripe_size) × (1 ≤ c.stripe_co
 abbrev pub AllCuttable : List Span → Type 0
 AllCuttable [] = Unit {0}
 AllCuttable (c ∷ cs) = Cuttable c × AllCuttable cs
-
--- What cutting takes as known of a list of components: there are at most 16, and each can be cut.
-pub record AreCuttable (cs : List Span) : Type 0 where
-  pub few : length cs ≤ 16
-  pub each : AllCuttable cs

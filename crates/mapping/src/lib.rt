@@ -14,8 +14,10 @@ ghost use Rattle.mapping.specs.Cutting.{cut_says, cut_of, cut_refusal, cut_piece
 use layout::{Component, Layout, Object};
 use refusals::Refusal;
 
+pub mod components;
 pub mod cutting;
 pub mod homes;
+mod listed;
 pub mod objects;
 pub mod units;
 

@@ -1,8 +1,22 @@
 -- `mapping::cutting::put_pieces` meets its contract: the pieces of one component are written after those of the one
 -- before.
-use Rattle.mapping.proofs.PutSteps.{put_next}
+use Rattle.std.proofs.Common.{arith}
+use Rattle.mapping.proofs.CutSteps.{put_none, put_cuttable, room_left, put_next, put_all}
 use Rattle.mapping.proofs.cutting.put_pieces.Goals as goal
 
-pub loop-span-preserved : goal.loop-span-preserved
-loop-span-preserved c =
-    put_next c.loop-span.invariant c.loop-span-test.true c.put_part-at.ensures.1 c.put_part-at.auto.room c.put_part-at.ensures.0
+pub loop-i-init : goal.loop-i-init
+loop-i-init g c = put_none (g.C.Components.list c.args.components.now) (g.met.C.Components.valid c.args.components.now)
+
+pub put_part-at-requires : goal.put_part-at-requires
+put_part-at-requires g c = (
+  put_cuttable (g.C.Components.list c.args.components.now) c.loop-i.invariant (omega arith) c.span.ensures,
+  room_left (g.C.Components.list c.args.components.now) c.loop-i.invariant (omega arith) c.span.ensures c.requires,
+)
+
+pub loop-i-preserved : goal.loop-i-preserved
+loop-i-preserved g c =
+    put_next (g.C.Components.list c.args.components.now) c.loop-i.invariant (omega arith) c.span.ensures c.put_part-at.ensures.1 c.put_part-at.auto.room
+    c.put_part-at.ensures.0
+
+pub returns : goal.returns
+returns g c = put_all (g.C.Components.list c.args.components.now) c.loop-i.invariant (omega arith)

@@ -1,6 +1,7 @@
 -- `mapping::cutting::put_pieces`: what is written by now.
-use Rattle.mapping.proofs.PutSteps.{Put}
+use Rattle.mapping.proofs.CutSteps.{Put}
+use Rattle.mapping.specs.Spans.{spans_of}
 use Rattle.mapping.proofs.cutting.put_pieces.Given as goal
 
-abbrev pub invariant-loop-span : goal.invariant-loop-span
-invariant-loop-span l = Put l.offset l.stop l.spans l.fn.room l.span-index l.at l.room
+abbrev pub invariant-loop-i : goal.invariant-loop-i
+invariant-loop-i g l = Put l.offset l.stop (spans_of (g.C.Components.list l.components)) l.fn.room l.i l.at l.room

@@ -6,26 +6,25 @@ use Rattle.stripe.specs.Stripe.{file_byte}
 use Rattle.mapping.specs.Back.{back_says}
 use Rattle.mapping.proofs.Owned.{below_some, below_none, outside_refused, inside_given}
 use Rattle.mapping.proofs.objects.byte_within.Goals as goal
-use Rattle.mapping.proofs.objects.byte_within.Goals.{then-byte-begin-via-then-byte-begin, then-byte-begin-via-else-byte-begin+then-end-byte}
 
 pub returns-in_err-byte : goal.returns-in_err-byte
 unfolding back_says
 returns-in_err-byte c =
     let a = c.args in
     let r : c.from_residual.result ≡ Err Hidden = search rules in
-    let past = below_none a.z a.s a.i a.p (sym c.file_byte.ensures ∙ c.in_err-byte.ensures.ok_part) in
-    rw r (sym (outside_refused a.begin a.end (file_byte a.z a.s a.i a.p) (λ h k w. omega (arith, past))))
+    let past = below_none a.c.stripe_size a.c.stripe_count a.i a.p (sym c.file_byte.ensures ∙ c.in_err-byte.ensures.ok_part) in
+    rw r (sym (outside_refused a.c.begin a.c.end (file_byte a.c.stripe_size a.c.stripe_count a.i a.p) (λ h k w. omega (arith, past))))
 
-pub returns-then-byte-begin : goal.returns-then-byte-begin
+pub returns-then-byte-c : goal.returns-then-byte-c
 unfolding back_says
-returns-then-byte-begin c =
+returns-then-byte-c c =
     let a = c.args in
-    let f = below_some a.z a.s a.i a.p c.in_ok-byte.byte (sym c.file_byte.ensures ∙ c.in_ok-byte.ensures.ok_part) in
-    sym (outside_refused a.begin a.end (file_byte a.z a.s a.i a.p) (λ h k w. omega (arith, f.0)))
+    let f = below_some a.c.stripe_size a.c.stripe_count a.i a.p c.in_ok-byte.byte (sym c.file_byte.ensures ∙ c.in_ok-byte.ensures.ok_part) in
+    sym (outside_refused a.c.begin a.c.end (file_byte a.c.stripe_size a.c.stripe_count a.i a.p) (λ h k w. omega (arith, f.0)))
 
 pub returns : goal.returns
 unfolding back_says
 returns c =
     let a = c.args in
-    let f = below_some a.z a.s a.i a.p c.in_ok-byte.byte (sym c.file_byte.ensures ∙ c.in_ok-byte.ensures.ok_part) in
-    rw f.0 (sym (inside_given a.begin a.end (file_byte a.z a.s a.i a.p) (omega (arith, f.0)) (omega (arith, f.0)) (omega (arith, f))))
+    let f = below_some a.c.stripe_size a.c.stripe_count a.i a.p c.in_ok-byte.byte (sym c.file_byte.ensures ∙ c.in_ok-byte.ensures.ok_part) in
+    rw f.0 (sym (inside_given a.c.begin a.c.end (file_byte a.c.stripe_size a.c.stripe_count a.i a.p) (omega (arith, f.0)) (omega (arith, f.0)) (omega (arith, f))))

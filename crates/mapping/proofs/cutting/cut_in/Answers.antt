@@ -1,0 +1,46 @@
+-- `mapping::cutting::cut_in` meets its contract: if nothing refuses the request, its pieces have room.
+use borrow.Author.Rules.{rules}
+use Rattle.std.proofs.Common.{◌≡◌, ◌∙◌, Err, length, arith}
+use Rattle.refusals.specs.Refusals.{number_of}
+use Rattle.layout.specs.Holder.{last_end}
+use Rattle.mapping.specs.Spans.{spans_of}
+use Rattle.mapping.specs.Cutting.{cut_says, cut_in}
+use Rattle.mapping.specs.CuttingLaws.{cut_refused, cut_accepted}
+use Rattle.mapping.specs.Acceptance.{accepted_facts}
+use Rattle.mapping.proofs.cutting.cut_in.Goals as goal
+
+pub returns-in_err-pieces : goal.returns-in_err-pieces
+unfolding cut_says cut_in
+returns-in_err-pieces g c =
+    let a = c.args in
+    let cs = g.C.Components.list a.components.now in
+    let r : c.from_residual.result ≡ Err c.in_err-pieces.field-0.0 = search rules in
+    let e = c.in_err-pieces.ensures in
+    rw r (e, cut_refused (last_end cs) a.offset a.bytes (spans_of cs) a.room.now (number_of c.in_err-pieces.field-0.0) e)
+
+-- Past the count, the request is accepted.
+pub overflow_add-offset : goal.overflow_add-offset
+unfolding cut_says cut_in
+overflow_add-offset g c =
+    let a = c.args in
+    let cs = g.C.Components.list a.components.now in
+    let done = cut_accepted (last_end cs) a.offset a.bytes (spans_of cs) a.room.now c.in_ok-pieces.pieces c.in_ok-pieces.ensures in
+    let k = accepted_facts (last_end cs) a.offset a.bytes (length a.room.now) (spans_of cs) done.0 in
+    omega (arith, k.below)
+
+pub put_pieces-requires : goal.put_pieces-requires
+unfolding cut_says cut_in
+put_pieces-requires g c =
+    let a = c.args in
+    let cs = g.C.Components.list a.components.now in
+    let done = cut_accepted (last_end cs) a.offset a.bytes (spans_of cs) a.room.now c.in_ok-pieces.pieces c.in_ok-pieces.ensures in
+    let k = accepted_facts (last_end cs) a.offset a.bytes (length a.room.now) (spans_of cs) done.0 in
+    (omega (arith, k.room))
+
+pub returns : goal.returns
+unfolding cut_says cut_in
+returns g c =
+    let a = c.args in
+    let cs = g.C.Components.list a.components.now in
+    let done = cut_accepted (last_end cs) a.offset a.bytes (spans_of cs) a.room.now c.in_ok-pieces.pieces c.in_ok-pieces.ensures in
+    (c.in_ok-pieces.ensures, c.put_pieces.ensures ∙ done.1)

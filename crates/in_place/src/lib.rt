@@ -17,5 +17,5 @@ pub fn record_count(s: &[u8], at: usize) -> usize
         × (result ≤ 16)
         × (result ≤ records_at s.now at) }
 {
-    page::decode::at_most_16(page::form::record_count(s, at))
+    page::form::record_count(s, at).min(16)
 }

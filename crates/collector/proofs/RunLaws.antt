@@ -1,6 +1,7 @@
 -- Laws of reading a run, for a collector that keeps the rules: what the reading is by what is next.
 use Rattle.std.specs.Prelude.{ℕ, zero, suc, ◌+◌, ◌-◌, ◌≤◌, ◌<◌, ◌≡◌, refl, List, [], ◌∷◌, Bool, true, false, cond, eqb, length}
-use Rattle.std.proofs.Common.{sym, subst, ◌∙◌, arith, eqb-true, eq-eqb, ne_eqb}
+use Rattle.std.specs.Result.{MatchResult}
+use Rattle.std.proofs.Common.{Result, Ok, Err, sym, subst, ◌∙◌, arith, eqb-true, eq-eqb, ne_eqb}
 use Rattle.std.proofs.Math.Path.{ap}
 use Rattle.std.proofs.Math.Seq.{length-sets}
 use Rattle.lists.specs.Bools.{bool_cases}
@@ -11,13 +12,18 @@ use Rattle.layout.specs.Rules.{rule_broken}
 use Rattle.page.specs.Form.{page_form}
 use Rattle.page.specs.Content.{head_of, components_of}
 use Rattle.page.specs.FormLaws.{length_components, some_components, page_by}
+use Rattle.refusals.specs.declared.Refusal.{Refusal}
 use Rattle.collector.specs.declared.Collector.{Collector}
-use Rattle.collector.specs.declared.Reading.{Reading}
+use Rattle.collector.specs.declared.run.RefusedPage.{RefusedPage}
 use Rattle.collector.specs.Collector.{new_collector}
-use Rattle.collector.specs.Taking.{number_of, added, content_refusal, open_refusal, settled, open_in, page_in}
+use Rattle.refusals.specs.Refusals.{number_of as refusal_number, number_pos}
+use Rattle.collector.specs.declared.Answer.{Answer}
+use Rattle.collector.specs.Taking.{Taken, take_says, number_of, added, content_refusal, open_refusal, settled, open_in, page_in}
 use Rattle.collector.specs.TakingLaws.{settled_number, refused_open, refused_2, refused_3, refused_content}
 use Rattle.collector.specs.Sound.{Sound, facts_sound, sound_added}
-use Rattle.collector.specs.Runs.{Next, ended, broken, next, refused_at, closed, following, read_on, read_run}
+use Rattle.std.specs.Borrow.{Bor}
+use Rattle.collector.specs.Reads.{next_answer, cut_says}
+use Rattle.collector.specs.Runs.{Next, Reading, ended, broken, next, refused_at, closed, following, read_on, read_run}
 
 -- A collector as a reading has it: it keeps the rules, and its array has 16 places.
 pub record Held (c : Collector) : Type 0 where
@@ -37,6 +43,22 @@ open_taken c p e =
     (λ x. bool_cases (page_form p)
     (λ y. (x, y, sym (refused_content c p x y) ∙ e))
     (λ y. absurd (omega (arith, refused_3 c p x y))))
+
+-- If no page is cut off, the reading ends with the number that this gives.
+unless_next : (on : Collector → List ℕ → Reading) (c : Collector) (n : Next) (k : ℕ) → Err k ≡ next_answer n
+    → following on c n ≡ refused_at k c.pages
+unless_next on c ended k e = let z : k ≡ 1 = cc in rw z
+unless_next on c broken k e = let z : k ≡ 3 = cc in rw z
+unless_next on c (next p rest) k e = absurd (cc)
+
+-- A page that is cut off comes next.
+pub next_given : (n : Next) (p rest : List ℕ) → Ok (p, rest) ≡ next_answer n → n ≡ next p rest
+next_given ended p rest e = absurd (cc)
+next_given broken p rest e = absurd (cc)
+next_given (next q r) p rest e =
+    let x : q ≡ p = ap (λ (a : Result (List ℕ × List ℕ) ℕ). elim a [ Ok y ↦ y.0 | Err n ↦ q ]) (sym e) in
+    let y : r ≡ rest = ap (λ (a : Result (List ℕ × List ℕ) ℕ). elim a [ Ok y ↦ y.1 | Err n ↦ r ]) (sym e) in
+    rw (x, y)
 
 module _ (c : Collector) (h : Held c) where
   -- A collector that keeps the rules has taken at most 16 pages.
@@ -87,6 +109,10 @@ module _ (c : Collector) (h : Held c) where
       pub read_broken : cut s ≡ broken → read_from cut c s ≡ refused_at 3 c.pages
       read_broken n = read_next ∙ ap (following (read_on cut (16 - c.pages)) c) n
 
+      -- No page is cut off.
+      pub read_unless : (k : ℕ) → Err k ≡ next_answer (cut s) → read_from cut c s ≡ refused_at k c.pages
+      read_unless k e = read_next ∙ unless_next (read_on cut (16 - c.pages)) c (cut s) k e
+
       module _ (p rest : List ℕ) (n : cut s ≡ next p rest) where
         pub read_refused : (k : ℕ) → number_of (open_in c p).answer ≡ k → 0 < k
             → read_from cut c s ≡ refused_at k c.pages
@@ -102,6 +128,36 @@ module _ (c : Collector) (h : Held c) where
             let l : 16 - c.pages ≡ 17 - (open_in c p).collector.pages = omega (arith, taken_pages p f) in
             read_next ∙ ap (following (read_on cut (16 - c.pages)) c) n
             ∙ rw (page_open p, x) (ap (λ (m : ℕ). read_on cut m (open_in c p).collector rest) l)
+
+-- What the call gives that takes the page which comes next: the reading ends, or goes on.
+module _ (c : Collector) (h : Held c) (cut : List ℕ → Next) (s : List ℕ) (e : c.layout.complete ≡ false)
+    (p rest : List ℕ) (n : Ok (p, rest) ≡ next_answer (cut s)) (r : Result Answer Refusal) (d : Collector)
+    (t : take_says r d ≡ open_in c p) where
+  page_next : cut s ≡ next p rest
+  page_next = next_given (cut s) p rest n
+
+  is_collector : d ≡ (open_in c p).collector
+  is_collector = ap (λ (x : Taken). x.collector) t
+
+  pub ends_refused : (f : Refusal) → r ≡ Err f → read_from cut c s ≡ refused_at (refusal_number f) c.pages
+  unfolding number_of
+  ends_refused f q =
+      let k : number_of (open_in c p).answer ≡ refusal_number f = ap (λ (x : Taken). number_of x.answer) (sym t) ∙ rw q in
+      read_refused c h cut s e p rest page_next (refusal_number f) k (number_pos f)
+
+  module _ (a : Answer) (q : r ≡ Ok a) where
+    no_number : number_of (open_in c p).answer ≡ 0
+    unfolding number_of
+    no_number = ap (λ (x : Taken). number_of x.answer) (sym t) ∙ rw q
+
+    pub goes_on_held : Held d
+    goes_on_held = rw is_collector (taken_held c h p no_number)
+
+    pub goes_on_pages : d.pages ≡ c.pages + 1
+    goes_on_pages = rw is_collector (taken_pages c h p no_number)
+
+    pub goes_on : read_from cut c s ≡ read_from cut d rest
+    goes_on = rw is_collector (read_taken c h cut s e p rest page_next no_number)
 
 -- The pages that may still come, n of them, never run out before the collector is complete or a page is refused.
 module _ (cut : List ℕ → Next) where
@@ -160,3 +216,19 @@ new_held =
 pub read_start : (cut : List ℕ → Next) (s : List ℕ) → read_run cut s ≡ read_from cut new_collector s
 unfolding read_run
 read_start cut s = refl
+
+-- Where a refusal was given the number of its page.
+pub refused_page : {A : Type 0} (r : Result A Refusal) (x : RefusedPage) (p : ℕ)
+    → MatchResult r (λ _. ⊥) (λ e. x ≡ record { refusal = e; page = p })
+    → (e : Refusal) × (r ≡ Err e) × (x ≡ record { refusal = e; page = p })
+refused_page (Ok y) x p m = absurd m
+refused_page (Err e) x p m = (e, refl, m)
+
+-- Where no refusal was.
+pub given_page : {A : Type 0} (r : Result A Refusal) (x : A) → MatchResult r (λ y. y ≡ x) (λ _. ⊥) → r ≡ Ok x
+given_page (Ok y) x m = rw m
+given_page (Err e) x m = absurd m
+
+pub given_cut : (r : Result (Bor (List ℕ) × Bor (List ℕ)) Refusal) (n : Next) (p rest : Bor (List ℕ))
+    → MatchResult r (λ y. y ≡ (p, rest)) (λ _. ⊥) → cut_says r ≡ next_answer n → Ok (p.now, rest.now) ≡ next_answer n
+given_cut r n p rest m e = rw (given_page r (p, rest) m) at e

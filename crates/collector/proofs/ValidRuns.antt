@@ -8,10 +8,9 @@ use Rattle.layout.specs.RecordLaws.{view_pack}
 use Rattle.layout.specs.Rules.{valid}
 use Rattle.layout.specs.FactLaws.{keeps_facts, facts_valid}
 use Rattle.collector.specs.declared.Collector.{Collector}
-use Rattle.collector.specs.declared.Reading.{Reading}
 use Rattle.collector.specs.Collector.{new_collector, gathered}
 use Rattle.collector.specs.Taking.{number_of, open_in}
-use Rattle.collector.specs.Runs.{Next, ended, broken, next, closed, following, read_on, read_run}
+use Rattle.collector.specs.Runs.{Next, Reading, ended, broken, next, closed, following, read_on, read_run}
 use Rattle.collector.proofs.RunLaws.{Held, page_open, taken_held, new_held}
 
 -- The layout of a collector that keeps the rules and is complete is valid.

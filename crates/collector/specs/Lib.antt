@@ -2,5 +2,6 @@ pub mod Collector
 pub mod Taking
 pub mod Giving
 pub mod Runs
+pub mod Reads
 pub mod TakingLaws
 pub mod Sound

@@ -2,10 +2,10 @@
 -- page is cut from the bytes is a parameter.
 use Rattle.std.specs.Prelude.{ℕ, zero, suc, ◌+◌, List, [], ◌∷◌, cond, ◌&&◌, eqb, leb, length, take, drop}
 use Rattle.bytes_le.specs.Numbers.{u16_at}
+use Rattle.layout.specs.declared.Layout.{Layout}
 use Rattle.layout.specs.Records.{packed, no_layout}
 use Rattle.page.specs.Form.{page_end}
 use Rattle.collector.specs.declared.Collector.{Collector}
-use Rattle.collector.specs.declared.Reading.{Reading}
 use Rattle.collector.specs.Collector.{new_collector, gathered}
 use Rattle.collector.specs.Taking.{number_of, page_in}
 
@@ -14,6 +14,13 @@ pub data Next : Type 0 where
   ended : Next
   broken : Next
   next : List ℕ → List ℕ → Next
+
+-- What reading a run gives: 0, the number of pages, and the layout; or the number of the first refusal, the number of its
+-- page, counted from 0, and a blank layout.
+pub record Reading : Type 0 where
+  pub refusal : ℕ
+  pub page : ℕ
+  pub layout : Layout
 
 -- A reading that ends with a refusal at page p, counted from 0.
 abbrev pub refused_at : ℕ → ℕ → Reading

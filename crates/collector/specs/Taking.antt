@@ -1,6 +1,8 @@
 -- A page is taken into a collector: the number of the refusal, or the collector with the page.
-use Rattle.std.specs.Prelude.{ℕ, zero, suc, ◌+◌, List, ◌++◌, Bool, not, cond, ◌&&◌, ◌||◌, eqb, leb, length}
+use Rattle.std.specs.Prelude.{ℕ, zero, suc, ◌+◌, List, ◌++◌, Result, Ok, Err, Bool, not, cond, ◌&&◌, ◌||◌, eqb, leb, length}
 use Rattle.std.proofs.lemmas.List.Edits.{sets}
+use Rattle.refusals.specs.declared.Refusal.{Refusal}
+use Rattle.refusals.specs.Numbered.{numbered}
 use Rattle.layout.specs.declared.Component.{Component}
 use Rattle.layout.specs.declared.Layout.{Layout}
 use Rattle.layout.specs.Rules.{rule_broken}
@@ -8,16 +10,23 @@ use Rattle.page.specs.declared.Head.{Head}
 use Rattle.page.specs.Form.{page_form}
 use Rattle.page.specs.Content.{head_of, components_of}
 use Rattle.collector.specs.declared.Collector.{Collector}
-use Rattle.collector.specs.declared.Taken.{Taken}
 use Rattle.collector.specs.declared.Answer.{Answer}
-use Rattle.collector.specs.declared.Answer.TheVariants.{More, Complete, Refused}
+use Rattle.collector.specs.declared.Answer.TheVariants.{More, Complete}
 use Rattle.collector.specs.Collector.{gathered, collector_ok}
 
+-- What a page call gives: the answer, a refusal by its number, and the collector afterwards.
+pub record Taken : Type 0 where
+  pub answer : Result Answer ℕ
+  pub collector : Collector
+
+-- What the code's call gives: its answer, and what is then in the lent collector.
+abbrev pub take_says : Result Answer Refusal → Collector → Taken
+take_says r c = record { answer = numbered r; collector = c }
+
 -- The number that an answer means: that of the refusal, and 0 if the page was taken.
-unfoldable pub number_of : Answer → ℕ
-number_of More = 0
-number_of Complete = 0
-number_of (Refused n) = n
+unfoldable pub number_of : Result Answer ℕ → ℕ
+number_of (Ok a) = 0
+number_of (Err n) = n
 
 -- Refusal 4 does not apply: the page number is the next, and the generation that of page 0.
 unfoldable pub is_next : ℕ → ℕ → Head → Bool
@@ -42,7 +51,7 @@ added c h cs = record { pages = c.pages + 1; layout = joined h c.layout cs }
 abbrev pub accepted : ℕ → Bool → Layout → Taken
 accepted pages more l =
     record {
-      answer = cond more More Complete;
+      answer = Ok (cond more More Complete);
       collector = record { pages = pages; layout = l };
     }
 
@@ -68,7 +77,7 @@ page_refusal c s = cond (collector_ok c) (open_refusal c s) 1
 -- collector with the page, and "more wanted" or "complete" by the page's flag.
 unfoldable pub settled : ℕ → Collector → Head → List Component → Taken
 settled zero c h cs = accepted (c.pages + 1) h.more (joined h c.layout cs)
-settled (suc n) c h cs = record { answer = Refused (suc n); collector = c }
+settled (suc n) c h cs = record { answer = Err (suc n); collector = c }
 
 -- What taking a page of good form gives, by what it says.
 abbrev pub content_in : Collector → Head → List Component → Taken

@@ -1,80 +1,64 @@
 // Runs of pages: a layout is read from bytes that hold all of its pages.
-ghost use Rattle.std.specs.Prelude.{◌≡◌, [], ◌≤◌};
-ghost use Rattle.collector.specs.Taking.{number_of};
-ghost use Rattle.collector.specs.Runs.{refused_at, closed, read_run, listed_cut};
+ghost use Rattle.std.specs.Prelude.{◌≡◌};
+ghost use Rattle.collector.specs.Runs.{read_run, listed_cut};
+ghost use Rattle.collector.specs.Reads.{next_answer, cut_says, reading_says};
 
-use crate::{Answer, Collector, Reading};
+use layout::Layout;
+use refusals::Refusal;
 
-// A reading that ends with a refusal.
-fn refused_at(number: u8, page: usize) -> Reading
-    ensures { result ≡ refused_at number page }
-{
-    let layout = layout::no_layout();
-    Reading {
-        refusal: number,
-        page: page,
-        layout: layout,
-    }
+// What reading a run gives: the number of pages, and the layout.
+#[derive(Clone, Copy)]
+pub struct Reading {
+    pub pages: usize,
+    pub layout: Layout,
 }
 
-// The number that an answer means, 0 if the page was taken.
-fn number_of(answer: Answer) -> u8
-    ensures { result ≡ number_of answer }
-{
-    match answer {
-        Answer::More => 0,
-        Answer::Complete => 0,
-        Answer::Refused(n) => n,
-    }
+// The first refusal of a run, and the number of its page, counted from 0.
+#[derive(Clone, Copy)]
+pub struct RefusedPage {
+    pub refusal: Refusal,
+    pub page: usize,
 }
 
-// A reading that ends complete.
-fn finished(c: Collector) -> Reading
-    requires { c.layout.count ≤ 16 }
-    ensures { result ≡ closed c [] }
+// The page that comes next in the listing's bytes, after its length, and the bytes after it.
+fn next_page(s: &[u8]) -> Result<(&[u8], &[u8]), Refusal>
+    ensures { cut_says result ≡ next_answer (listed_cut s.now) }
 {
-    let layout = crate::layout_in(c);
-    Reading {
-        refusal: 0,
-        page: c.pages,
-        layout: layout,
+    if s.is_empty() {
+        return Err(Refusal::NotValid);
     }
+    if s.len() < 2 {
+        return Err(Refusal::Form);
+    }
+    let length = bytes_le::u16_at(s, 0) as usize;
+    let rest = &s[2..];
+    if 512 < length || rest.len() < length {
+        return Err(Refusal::Form);
+    }
+    Ok(rest.split_at(length))
 }
 
 // Reads the listing's pages: each comes after its length, a number of two bytes.
-pub fn read_listed(s: &[u8]) -> Reading
-    ensures { result ≡ read_run listed_cut s.now }
+pub fn read_listed(s: &[u8]) -> Result<Reading, RefusedPage>
+    ensures { reading_says result ≡ read_run listed_cut s.now }
 {
     let mut c = crate::new_collector();
-    let mut at: usize = 0;
+    let mut rest = s;
     while !c.layout.complete {
-        if s.len() <= at {
-            return refused_at(1, c.pages);
-        }
-        if s.len() - at < 2 {
-            return refused_at(3, c.pages);
-        }
-        let length = bytes_le::u16_at(s, at) as usize;
-        if 512 < length {
-            return refused_at(3, c.pages);
-        }
-        let from = at + 2;
-        if s.len() - from < length {
-            return refused_at(3, c.pages);
-        }
-        let to = from + length;
-        let page = &s[from..to];
-        let taken = crate::take_next(c, page);
-        let answer = taken.answer;
-        let number = number_of(answer);
-        if number != 0 {
-            return refused_at(number, c.pages);
-        }
-        c = taken.collector;
-        at = to;
+        let page = c.pages;
+        let refused = |refusal| RefusedPage { refusal, page };
+        let (bytes, after) = next_page(rest).map_err(refused)?;
+        crate::take_next(&mut c, bytes).map_err(refused)?;
+        rest = after;
     }
-    if at < s.len() {
-        return refused_at(2, c.pages);
+    if !rest.is_empty() {
+        return Err(RefusedPage {
+            refusal: Refusal::AfterLastPage,
+            page: c.pages,
+        });
     }
-    finished(c)
+    Ok(Reading {
+        pages: c.pages,
+        layout: crate::layout_in(&c),
+    })
 }

@@ -1,16 +1,13 @@
--- `collector::with_components` meets its contract: what all stores give is what the stores from i on give to the array as it is.
-use Prim.Native.Nat.{◌+◌, ◌≤◌, ◌-◌}
+-- `collector::with_components` meets its contract: what all stores give is what the stores that are left give to the array.
+use Prim.Native.Nat.{◌+◌}
 use mathlib.Core.Path.{◌≡◌}
 use mathlib.Core.List.{map}
-use lib.ListN.{take}
-use lib.Seq.{sets, slice}
+use lib.ListN.{drop}
+use lib.Seq.{sets}
 use Rattle.page.specs.Content.{component_at}
 use Rattle.collector.proofs.with_components.Given as goal
 
 abbrev pub invariant-loop-i : goal.invariant-loop-i
-invariant-loop-i l = (l.i ≤ l.n)
-    × (sets l.initial.out.components l.from (map (component_at l.s) (take l.n l.places)) ≡ sets l.out.components (l.from + l.i)
-    (map (component_at l.s) (slice l.i l.n l.places)))
-
-abbrev pub decreases-loop-i : goal.decreases-loop-i
-decreases-loop-i l = l.n - l.i
+invariant-loop-i l =
+    sets l.fn.l.components l.l.count (map (component_at l.s) l.places)
+    ≡ sets l.components (l.l.count + l.i) (map (component_at l.s) (drop l.i l.places))

@@ -1,0 +1,74 @@
+-- `collector::take_walked` meets its contract: the definition's tests in their order.
+use Prim.Native.Nat.{◌<◌}
+use native.Mathlib.Omega.{arith}
+use Rattle.std.proofs.lemmas.Result.{err_from_is_err_and}
+use Rattle.std.proofs.Common.{get_or-take, length-take}
+use Rattle.page.specs.FormLaws.{length_components}
+use Rattle.refusals.specs.Refusals.{number_of, number_pos}
+use Rattle.collector.specs.Sound.{sound_facts}
+use Rattle.collector.proofs.Next.{count_is, few_after, refused_unless_next, refused_over, known, refused_by, taken}
+use Rattle.collector.proofs.take_walked.Goals as goal
+
+pub returns-then-not-is_next : goal.returns-then-not-is_next
+returns-then-not-is_next c =
+    let a = c.args in
+    refused_unless_next a.c.now a.page.now a.places.now c.read-head.result c.requires.0 c.requires.2 c.read-head.ensures (cc)
+
+pub overflow_add-from : goal.overflow_add-from
+overflow_add-from c =
+    let a = c.args in
+    omega (arith, few_after a.c.now a.page.now a.places.now c.read-head.result c.requires.0 c.requires.2 c.read-head.ensures)
+
+pub returns-then-from-n-gt16 : goal.returns-then-from-n-gt16
+returns-then-from-n-gt16 c =
+    let a = c.args in
+    refused_over a.c.now a.page.now a.places.now c.read-head.result c.requires.0 c.requires.2 c.read-head.ensures (cc)
+    c.if-from-n-gt16.true
+
+pub with_components-next-requires : goal.with_components-next-requires
+with_components-next-requires c =
+    let a = c.args in
+    let n = c.read-head.result.count in
+    let w = c.requires.2 in
+    let l = length-take n a.places.now in
+    let m = count_is a.page.now c.read-head.result c.read-head.ensures in (
+      omega arith,
+      λ i h.
+          let k : i < n = omega arith in
+          rw (get_or-take n a.places.now i 0 k) (w.within i (omega (arith, length_components a.page.now))),
+    )
+
+pub check_rules_from-requires : goal.check_rules_from-requires
+check_rules_from-requires c =
+    let a = c.args in
+    known a.c.now a.page.now a.places.now c.read-head.result c.requires.0 c.requires.2 c.read-head.ensures (cc)
+    c.if-from-n-gt16.false c.with_components-next.ensures.1 _ c.with_components-next.ensures.0 c.requires.1
+
+pub returns-in_err-check_rules_from : goal.returns-in_err-check_rules_from
+returns-in_err-check_rules_from c =
+    let a = c.args in
+    let p = err_from_is_err_and c.from_residual.result c.from_residual.ensures.1 in
+    let e = c.in_err-check_rules_from.field-0.0 in
+    rw (p.1, p.2)
+    (refused_by a.c.now a.page.now a.places.now c.read-head.result c.requires.0 c.requires.2 c.read-head.ensures (cc)
+    c.if-from-n-gt16.false c.with_components-next.ensures.1 _ c.with_components-next.ensures.0
+    (number_of e) c.in_err-check_rules_from.ensures (number_pos e))
+
+pub overflow_add-c : goal.overflow_add-c
+overflow_add-c c =
+    let k = sound_facts c.args.c.now c.requires.0 in
+    omega (arith, k.within, k.few)
+
+pub returns-then-head : goal.returns-then-head
+returns-then-head c =
+    let a = c.args in
+    rw c.if-head.true at
+    (taken a.c.now a.page.now a.places.now c.read-head.result c.requires.0 c.requires.2 c.read-head.ensures (cc)
+    c.if-from-n-gt16.false c.with_components-next.ensures.1 _ c.with_components-next.ensures.0 c.in_ok-check_rules_from.ensures)
+
+pub returns-else-head : goal.returns-else-head
+returns-else-head c =
+    let a = c.args in
+    rw c.if-head.false at
+    (taken a.c.now a.page.now a.places.now c.read-head.result c.requires.0 c.requires.2 c.read-head.ensures (cc)
+    c.if-from-n-gt16.false c.with_components-next.ensures.1 _ c.with_components-next.ensures.0 c.in_ok-check_rules_from.ensures)

@@ -3,7 +3,7 @@ use Rattle.std.specs.Prelude.{ℕ, zero, suc, ◌<◌, ◌≡◌, refl, List, Ok
 use Rattle.std.proofs.Common.{ap, arith}
 use Rattle.lists.specs.Bools.{bool_cases}
 use Rattle.layout.specs.declared.Component.{Component}
-use Rattle.layout.specs.Records.{packed}
+use Rattle.layout.specs.Records.{packed, no_layout}
 use Rattle.page.specs.declared.Head.{Head}
 use Rattle.page.specs.Content.{head_of, components_of}
 use Rattle.collector.specs.declared.Collector.{Collector}
@@ -63,12 +63,12 @@ module _ (c : Collector) (s : List ℕ) where
 
 -- and a collector with pages outstanding never gives a layout.
 pub outstanding_none : (c : Collector) → c.layout.complete ≡ false
-    → layout_out c ≡ Err 1
+    → layout_out c ≡ record { refusal = 1; layout = no_layout }
 unfolding layout_out
 outstanding_none c e = bool_cases (collector_ok c) (λ k. rw (k, e)) (λ k. rw k)
 
 -- One that is complete and keeps the rules gives the layout of its generation and the components that were gathered.
 pub complete_given : (c : Collector) → collector_ok c ≡ true → c.layout.complete ≡ true
-    → layout_out c ≡ Ok (packed c.layout.generation (gathered c))
+    → layout_out c ≡ record { refusal = 0; layout = packed c.layout.generation (gathered c) }
 unfolding layout_out
 complete_given c k e = rw (k, e)

@@ -6,10 +6,9 @@ ghost use Rattle.layout.specs.Records.{packed};
 ghost use Rattle.page.specs.Form.{component_end};
 ghost use Rattle.page.specs.Content.{component_at, head_of, components_of};
 ghost use Rattle.page.specs.Walked.{Walked};
-ghost use Rattle.refusals.specs.Numbered.{numbered};
 ghost use Rattle.collector.specs.Collector.{new_collector, gathered, counts_agree, collector_ok};
 ghost use Rattle.collector.specs.Taking.{take_says, is_next, joined, content_in, open_in, page_in};
-ghost use Rattle.collector.specs.Giving.{layout_out};
+ghost use Rattle.collector.specs.Giving.{layout_says, layout_out};
 
 use layout::Layout;
 use page::Head;
@@ -152,7 +151,7 @@ fn layout_in(c: &Collector) -> Layout
 // The layout out of a complete collector. Refused by 1 if the collector breaks the rules, or is not complete.
 #[tactic(auto, unfolding(crate::specs::Giving::layout_out))]
 pub fn layout_of(c: &Collector) -> Result<Layout, Refusal>
-    ensures { numbered result ≡ layout_out c.now }
+    ensures { layout_says result ≡ layout_out c.now }
 {
     if is_sound(*c) && c.layout.complete {
         Ok(layout_in(c))

@@ -1,7 +1,7 @@
 -- "The reader takes any paging": pages that are those of one layout in their order, however its components are divided
 -- among them, are all taken by a new collector, and the last answers "complete", if their components together keep
 -- the rules. The theorem is `any_paging`, at the end.
-use Rattle.std.specs.Prelude.{ℕ, zero, suc, ◌+◌, ◌≤◌, ◌<◌, ◌≡◌, refl, List, [], ◌∷◌, ◌++◌, Bool, true, false, not, length, replicate}
+use Rattle.std.specs.Prelude.{ℕ, zero, suc, ◌+◌, ◌≤◌, ◌<◌, ◌≡◌, refl, List, [], ◌∷◌, ◌++◌, Bool, true, false, not, length, replicate, Ok}
 use Rattle.std.proofs.Common.{sym, ap, ◌∙◌, append_assoc, append-nil, arith, zero-add, add-one, length-append, eq-eqb, ne_eqb}
 use Rattle.std.proofs.lemmas.List.Edits.{sets}
 use Rattle.lists.specs.Bools.{clash}
@@ -147,7 +147,7 @@ pub any_paging : (g : ℕ) (ps : List (List ℕ)) → ArePages g 0 ps → some_p
     → Keeps false (components_in ps)
     → read_pages new_collector ps
     ≡ record {
-      answer = Complete;
+      answer = Ok Complete;
       collector = record { pages = length ps; layout = packed g (components_in ps) };
     }
 any_paging g ps a some few keeps =

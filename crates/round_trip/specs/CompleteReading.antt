@@ -1,7 +1,7 @@
 -- What a complete reading tells: pages are taken one after another by a new collector, and the last of them completes
 -- it. The pages are then those of one layout, in their order, and the layout that the collector gives has their
 -- components.
-use Rattle.std.specs.Prelude.{ℕ, suc, ◌≤◌, ◌≡◌, refl, List, [], ◌∷◌, ◌++◌, Bool, true, false, not, cond, ◌||◌, length}
+use Rattle.std.specs.Prelude.{ℕ, suc, ◌≤◌, ◌≡◌, refl, List, [], ◌∷◌, ◌++◌, Bool, true, false, not, cond, ◌||◌, length, Result, Ok}
 use Rattle.std.proofs.Common.{sym, ap, subst, ◌∙◌, append_assoc, append-nil, arith, add-one, length-append}
 use Rattle.std.proofs.Math.Dec.{eqb}
 use Rattle.std.proofs.Math.Seq.{length-sets}
@@ -19,7 +19,8 @@ use Rattle.page.specs.Content.{head_of, components_of}
 use Rattle.page.specs.FormLaws.{length_components, some_components, page_by}
 use Rattle.page.specs.Same.{Few, fields_few}
 use Rattle.collector.specs.declared.Collector.{Collector}
-use Rattle.collector.specs.declared.Taken.{Taken}
+use Rattle.collector.specs.Taking.{Taken}
+use Rattle.collector.specs.declared.Answer.{Answer}
 use Rattle.collector.specs.declared.Answer.TheVariants.{More, Complete}
 use Rattle.collector.specs.Collector.{new_collector, gathered, collector_ok}
 use Rattle.collector.specs.Taking.{number_of, is_next, added, content_refusal, open_refusal, page_refusal, settled, page_in}
@@ -88,7 +89,7 @@ first_taken c₀ c p ps e =
     absurd (eqb-false n 0 z (sym k ∙ ap (λ (t : Taken). number_of t.answer) r)))
 
 -- The answer is "complete" only if the collector is.
-pub answered_complete : (b : Bool) → Complete ≡ cond b Complete More → b ≡ true
+pub answered_complete : (b : Bool) → ◌≡◌ {A = Result Answer ℕ} (Ok Complete) (Ok (cond b Complete More)) → b ≡ true
 answered_complete true e = refl
 answered_complete false e = cc
 
@@ -169,7 +170,7 @@ pages_some (p ∷ ps) e = omega arith
 -- A complete reading: the pages ps are taken one after another by a new collector, and the last of them completes it; c
 -- is the collector then.
 module _ (ps : List (List ℕ)) (c : Collector)
-    (e : read_pages new_collector ps ≡ record { answer = Complete; collector = c }) where
+    (e : read_pages new_collector ps ≡ record { answer = Ok Complete; collector = c }) where
   -- What it tells.
   whole_reading : WholeReading new_collector c ps
   whole_reading = reading new_collector c ps new_held.places new_held.sound e

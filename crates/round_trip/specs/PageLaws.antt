@@ -1,6 +1,6 @@
 -- The pages of a valid layout: each has a component and at most 512 bytes, and the list of all pages has each page at
 -- its number.
-use Rattle.std.specs.Prelude.{ℕ, zero, suc, ◌+◌, ◌-◌, ◌≤◌, ◌<◌, ◌≡◌, refl, List, [], ◌∷◌, true, false, cond, ltb, length, get_or, take}
+use Rattle.std.specs.Prelude.{ℕ, zero, suc, ◌+◌, ◌-◌, ◌≤◌, ◌<◌, ◌≡◌, refl, List, [], ◌∷◌, true, false, cond, ltb, length, get_or, take, sum}
 use Rattle.std.proofs.Common.{sym, ap, ◌∙◌, arith, zero-add, add-zero, add-suc, suc-add, length-drop, length-take-le, ltb-true, ltb-false, lt-ltb, le-ltb, le-leb}
 use Rattle.std.proofs.Math.Dec.{leb-suc-suc}
 use Rattle.std.proofs.lemmas.List.{length-map}
@@ -14,7 +14,7 @@ use Rattle.layout.specs.Facts.{Valid}
 use Rattle.layout.specs.FactLaws.{valid_facts}
 use Rattle.page.specs.Bytes.{size_of}
 use Rattle.page.specs.BytesLaws.{total}
-use Rattle.paging.specs.Paging.{in_page, sum, page_start, sizes_of, from_page, first_page, is_some, written_page}
+use Rattle.paging.specs.Paging.{in_page, page_start, sizes_of, from_page, first_page, is_some, written_page}
 use Rattle.paging.specs.Paging.{write_refusal, out_refusal}
 use Rattle.paging.specs.PagingLaws.{Fit, fit_drop, in_page_le, in_page_some, page_fits, page_start_next, page_start_mono}
 use Rattle.paging.specs.PagingLaws.{page_number_le, sizes_drop, total_sum, written_le, valid_fit, is_some_drop}

@@ -1,6 +1,6 @@
 -- The pages of a layout as a list: taken one after another, written one after another, paged by the writer's rule, and
 -- in one run of bytes.
-use Rattle.std.specs.Prelude.{ℕ, zero, suc, ◌+◌, ◌^◌, ◌<◌, ◌≡◌, List, [], ◌∷◌, ◌++◌, map, Bool, true, false, cond, ◌&&◌, eqb, ltb, length}
+use Rattle.std.specs.Prelude.{ℕ, zero, suc, ◌+◌, ◌^◌, ◌<◌, ◌≡◌, List, [], ◌∷◌, ◌++◌, map, Bool, true, false, cond, ◌&&◌, eqb, ltb, length, Ok}
 use Rattle.bytes_le.specs.Numbers.{u16_bytes, AreBytes}
 use Rattle.layout.specs.declared.Component.{Component}
 use Rattle.layout.specs.declared.Layout.{Layout}
@@ -9,8 +9,8 @@ use Rattle.page.specs.Form.{page_form, ends_at, records_at}
 use Rattle.page.specs.Content.{head_of, components_of}
 use Rattle.page.specs.Same.{trimmed, NumbersFit}
 use Rattle.collector.specs.declared.Collector.{Collector}
-use Rattle.collector.specs.declared.Taken.{Taken}
-use Rattle.collector.specs.declared.Reading.{Reading}
+use Rattle.collector.specs.Taking.{Taken}
+use Rattle.collector.specs.Runs.{Reading}
 use Rattle.collector.specs.declared.Answer.TheVariants.{More, Complete}
 use Rattle.collector.specs.Taking.{number_of, page_in}
 use Rattle.collector.specs.Runs.{closed}
@@ -18,7 +18,7 @@ use Rattle.paging.specs.Paging.{is_some, from_page, written_page}
 
 -- Pages taken one after another, up to the first that is refused.
 abbrev pub read_pages : Collector → List (List ℕ) → Taken
-read_pages c [] = record { answer = cond c.layout.complete Complete More; collector = c }
+read_pages c [] = record { answer = Ok (cond c.layout.complete Complete More); collector = c }
 read_pages c (p ∷ ps) =
     cond (eqb (number_of (page_in c p).answer) 0) (read_pages (page_in c p).collector ps) (page_in c p)
 
@@ -55,7 +55,7 @@ AllBytes (p ∷ ps) = AreBytes p × AllBytes ps
 
 -- What taking pages gives if the last of them completes the collector: the answer "complete", and the collector c.
 abbrev pub completed : Collector → Taken
-completed c = record { answer = Complete; collector = c }
+completed c = record { answer = Ok Complete; collector = c }
 
 -- The components of pages, one page after the other.
 abbrev pub components_in : List (List ℕ) → List Component

@@ -1,5 +1,5 @@
 -- What was read is written again, over whole layouts and all their pages.
-use Rattle.std.specs.Prelude.{ℕ, ◌≡◌, List, true}
+use Rattle.std.specs.Prelude.{ℕ, ◌≡◌, List, true, Ok}
 use Rattle.collector.specs.declared.Collector.{Collector}
 use Rattle.collector.specs.declared.Answer.TheVariants.{Complete}
 use Rattle.collector.specs.Collector.{new_collector}
@@ -14,7 +14,7 @@ use Rattle.round_trip.specs.SamePages.{pages_same}
 -- `ps`: as many pages, in their order, byte for byte. `CompleteReading` says more of `c`: it does give a layout
 -- (`reading_given`), and that layout is valid (`reading_valid`), so refusal 1 applies neither to `c` nor to writing.
 pub read_written_again : (ps : List (List ℕ)) (c : Collector) → AllBytes ps
-    → read_pages new_collector ps ≡ record { answer = Complete; collector = c }
+    → read_pages new_collector ps ≡ record { answer = Ok Complete; collector = c }
     → paged_by_rule ps ≡ true
     → written_pages (layout_out c).layout ≡ ps
 unfolding written_pages

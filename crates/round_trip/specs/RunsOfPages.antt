@@ -3,7 +3,7 @@
 -- collector, and to the numbers that the paper states if pages are outstanding or bytes are after the last page.
 -- The theorems are `host_reads` and `listed_reads`, near the end, and those after them. (`read_run` and the two ways to
 -- cut the next page from the bytes, `host_cut` and `listed_cut`, are defined in the collector's `Runs`.)
-use Rattle.std.specs.Prelude.{ℕ, ◌+◌, ◌<◌, ◌≡◌, Bool, true, false, cond, eqb, length, drop}
+use Rattle.std.specs.Prelude.{ℕ, ◌+◌, ◌<◌, ◌≡◌, Bool, true, false, cond, eqb, length, drop, Result, Ok}
 use Rattle.std.proofs.Math.Path.{refl, ap}
 use Rattle.std.proofs.Common.{sym, subst, ◌∙◌, arith, length-append, drop_at, eqb-true}
 use mathlib.Core.List.{List, [], ◌∷◌, ◌++◌, append_assoc, append-nil}
@@ -19,10 +19,10 @@ use Rattle.page.specs.Content.{head_of, components_of}
 use Rattle.page.specs.FormLaws.{page_short}
 use Rattle.page.specs.FirstPageLaws.{whole_cut, whole_rest, whole_form}
 use Rattle.collector.specs.declared.Collector.{Collector}
-use Rattle.collector.specs.declared.Taken.{Taken}
+use Rattle.collector.specs.Taking.{Taken}
 use Rattle.collector.specs.declared.Answer.{Answer}
 use Rattle.collector.specs.declared.Answer.TheVariants.{More, Complete}
-use Rattle.collector.specs.declared.LayoutOut.{LayoutOut}
+use Rattle.collector.specs.Giving.{LayoutOut}
 use Rattle.collector.specs.Collector.{new_collector}
 use Rattle.collector.specs.Taking.{number_of, open_refusal, open_in}
 use Rattle.collector.specs.TakingLaws.{settled_number}
@@ -88,24 +88,24 @@ listed_apart =
 
 -- What it tells that all pages of ps are taken one after another, from the collector c₀ to the collector c, and that a
 -- is the answer then.
-pub record AllTaken (cut : List ℕ → Next) (join : List (List ℕ) → List ℕ) (c₀ c : Collector) (a : Answer)
+pub record AllTaken (cut : List ℕ → Next) (join : List (List ℕ) → List ℕ) (c₀ c : Collector) (a : Result Answer ℕ)
     (ps : List (List ℕ)) : Type 0 where
   -- The collector c keeps the rules.
   pub held : Held c
   -- It has taken as many pages more as there are in ps.
   pub pages : c.pages ≡ c₀.pages + length ps
   -- The answer says whether it is complete.
-  pub answer : a ≡ cond c.layout.complete Complete More
+  pub answer : a ≡ Ok (cond c.layout.complete Complete More)
   -- A run that begins with the pages is read from c₀ on as the bytes after them are read from c on.
   pub reads : (t : List ℕ) → read_from cut c₀ (join ps ++ t) ≡ read_from cut c t
 
 -- An answer that is no refusal says that all pages are taken, since taking ends at the first that is refused.
 pub all_taken : {cut : List ℕ → Next} {join : List (List ℕ) → List ℕ} → TakesApart cut join
-    → (c₀ c : Collector) (a : Answer) (ps : List (List ℕ)) → Held c₀ → number_of a ≡ 0
+    → (c₀ c : Collector) (a : Result Answer ℕ) (ps : List (List ℕ)) → Held c₀ → number_of a ≡ 0
     → read_pages c₀ ps ≡ record { answer = a; collector = c } → AllTaken cut join c₀ c a ps
 all_taken {cut} {join} w c₀ c a [] h n e =
     let same : c₀ ≡ c = ap (λ (r : Taken). r.collector) e in
-    let said : cond c₀.layout.complete Complete More ≡ a = ap (λ (r : Taken). r.answer) e in
+    let said : Ok (cond c₀.layout.complete Complete More) ≡ a = ap (λ (r : Taken). r.answer) e in
     let k : AllTaken cut join c₀ c₀ a [] =
     record { held = h; pages = omega arith; answer = sym said; reads = λ t. rw w.empty } in
     subst (λ (d : Collector). AllTaken cut join c₀ d a []) same k
@@ -130,7 +130,7 @@ all_taken {cut} {join} w c₀ c a (p ∷ ps) h n e =
     absurd (eqb-false number 0 z (ap (λ (r : Taken). number_of r.answer) stopped ∙ n)))
 
 -- The answer is "more wanted" only if the collector is not complete.
-answered_more : (b : Bool) → More ≡ cond b Complete More → b ≡ false
+answered_more : (b : Bool) → ◌≡◌ {A = Result Answer ℕ} (Ok More) (Ok (cond b Complete More)) → b ≡ false
 answered_more true e = cc
 answered_more false e = refl
 
@@ -138,7 +138,7 @@ answered_more false e = refl
 module _ {cut : List ℕ → Next} {join : List (List ℕ) → List ℕ} (w : TakesApart cut join) (ps : List (List ℕ))
     (c : Collector) where
   -- if a new collector takes all of them, and c is the collector then,
-  module _ (a : Answer) (n : number_of a ≡ 0)
+  module _ (a : Result Answer ℕ) (n : number_of a ≡ 0)
       (e : read_pages new_collector ps ≡ record { answer = a; collector = c }) where
     pub new_taken : AllTaken cut join new_collector c a ps
     new_taken = all_taken w new_collector c a ps new_held n e
@@ -152,76 +152,76 @@ module _ {cut : List ℕ → Next} {join : List (List ℕ) → List ℕ} (w : Ta
     read_on_lem t = read_start cut (join ps ++ t) ∙ new_taken.reads t
 
   -- if the last of them completes the collector,
-  module _ (e : read_pages new_collector ps ≡ record { answer = Complete; collector = c }) where
+  module _ (e : read_pages new_collector ps ≡ record { answer = Ok Complete; collector = c }) where
     complete : c.layout.complete ≡ true
     unfolding number_of
-    complete = answered_complete c.layout.complete (new_taken Complete refl e).answer
+    complete = answered_complete c.layout.complete (new_taken (Ok Complete) refl e).answer
 
     read_closes : (t : List ℕ) → read_run cut (join ps ++ t) ≡ closed c t
     unfolding number_of
-    read_closes t = read_on_lem Complete refl e t ∙ read_closed c (new_taken Complete refl e).held cut t complete
+    read_closes t = read_on_lem (Ok Complete) refl e t ∙ read_closed c (new_taken (Ok Complete) refl e).held cut t complete
 
     -- the run of them is read to the layout that c gives,
     pub read_complete : read_run cut (join ps) ≡ record { refusal = 0; page = length ps; layout = (layout_out c).layout }
     unfolding number_of layout_out
     read_complete =
-        let sound = facts_sound c (new_taken Complete refl e).held.sound in
+        let sound = facts_sound c (new_taken (Ok Complete) refl e).held.sound in
         ap (read_run cut) (sym (append-nil (join ps)))
         ∙ read_closes []
-        ∙ rw (sound, complete, pages_taken Complete refl e)
+        ∙ rw (sound, complete, pages_taken (Ok Complete) refl e)
 
     -- and with any byte after them it is refused;
     pub more_after : (t : List ℕ) → 0 < length t → read_run cut (join ps ++ t) ≡ refused_at 2 (length ps)
     unfolding number_of
-    more_after t h = read_closes t ∙ closed_more c t h ∙ ap (refused_at 2) (pages_taken Complete refl e)
+    more_after t h = read_closes t ∙ closed_more c t h ∙ ap (refused_at 2) (pages_taken (Ok Complete) refl e)
 
   -- if pages are outstanding, the run of them is refused.
-  pub read_outstanding : read_pages new_collector ps ≡ record { answer = More; collector = c }
+  pub read_outstanding : read_pages new_collector ps ≡ record { answer = Ok More; collector = c }
       → read_run cut (join ps) ≡ refused_at 1 (length ps)
   unfolding number_of
   read_outstanding e =
-      let r = new_taken More refl e in
+      let r = new_taken (Ok More) refl e in
       ap (read_run cut) (sym (append-nil (join ps)))
-      ∙ read_on_lem More refl e []
+      ∙ read_on_lem (Ok More) refl e []
       ∙ read_ended c r.held cut [] (answered_more c.layout.complete r.answer) w.none
-      ∙ ap (refused_at 1) (pages_taken More refl e)
+      ∙ ap (refused_at 1) (pages_taken (Ok More) refl e)
 
 -- A complete run is read as its pages are. The pages `ps` are taken one after another by a new collector, and the last
 -- of them completes it; `c` is the collector then. Put back to back, they are read without a refusal, all of them, and
 -- the layout is the one that `c` gives: each page is found by "ending after the records its head counts".
 pub host_reads : (ps : List (List ℕ)) (c : Collector)
-    → read_pages new_collector ps ≡ record { answer = Complete; collector = c }
+    → read_pages new_collector ps ≡ record { answer = Ok Complete; collector = c }
     → read_run host_cut (back_to_back ps) ≡ record { refusal = 0; page = length ps; layout = (layout_out c).layout }
 host_reads = read_complete host_apart
 
 -- The same if each page comes after its length: "The program reads pages, each after its u16 length".
 pub listed_reads : (ps : List (List ℕ)) (c : Collector)
-    → read_pages new_collector ps ≡ record { answer = Complete; collector = c }
+    → read_pages new_collector ps ≡ record { answer = Ok Complete; collector = c }
     → read_run listed_cut (listed ps) ≡ record { refusal = 0; page = length ps; layout = (layout_out c).layout }
 listed_reads = read_complete listed_apart
 
 -- "after the last page any byte gives 2", at the page that would come next: after complete pages back to back,
 pub host_more_after : (ps : List (List ℕ)) (c : Collector)
-    → read_pages new_collector ps ≡ record { answer = Complete; collector = c }
+    → read_pages new_collector ps ≡ record { answer = Ok Complete; collector = c }
     → (t : List ℕ) → 0 < length t → read_run host_cut (back_to_back ps ++ t) ≡ refused_at 2 (length ps)
 host_more_after = more_after host_apart
 
 -- and after complete pages that come after their lengths.
 pub listed_more_after : (ps : List (List ℕ)) (c : Collector)
-    → read_pages new_collector ps ≡ record { answer = Complete; collector = c }
+    → read_pages new_collector ps ≡ record { answer = Ok Complete; collector = c }
     → (t : List ℕ) → 0 < length t → read_run listed_cut (listed ps ++ t) ≡ refused_at 2 (length ps)
 listed_more_after = more_after listed_apart
 
 -- "Input that ends with pages outstanding gives number 1 with P the pages read". The pages `ps` are taken one after
 -- another by a new collector, and then more are wanted. Put back to back,
 pub host_outstanding : (ps : List (List ℕ)) (c : Collector)
-    → read_pages new_collector ps ≡ record { answer = More; collector = c }
+    → read_pages new_collector ps ≡ record { answer = Ok More; collector = c }
     → read_run host_cut (back_to_back ps) ≡ refused_at 1 (length ps)
 host_outstanding = read_outstanding host_apart
 
 -- and each after its length.
 pub listed_outstanding : (ps : List (List ℕ)) (c : Collector)
-    → read_pages new_collector ps ≡ record { answer = More; collector = c }
+    → read_pages new_collector ps ≡ record { answer = Ok More; collector = c }
     → read_run listed_cut (listed ps) ≡ refused_at 1 (length ps)
 listed_outstanding = read_outstanding listed_apart
 

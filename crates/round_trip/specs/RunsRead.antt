@@ -12,8 +12,8 @@ use Rattle.bytes_le.specs.NumberLaws.{u16_again, bytes_append_left, bytes_append
 use Rattle.layout.specs.declared.Layout.{Layout}
 use Rattle.page.specs.Form.{page_end}
 use Rattle.collector.specs.declared.Collector.{Collector}
-use Rattle.collector.specs.declared.LayoutOut.{LayoutOut}
-use Rattle.collector.specs.declared.Reading.{Reading}
+use Rattle.collector.specs.Giving.{LayoutOut}
+use Rattle.collector.specs.Runs.{Reading}
 use Rattle.collector.specs.Collector.{new_collector}
 use Rattle.collector.specs.Taking.{number_of, page_in}
 use Rattle.collector.specs.Giving.{layout_out}

@@ -1,5 +1,5 @@
 -- Document 01's page of 72 bytes and its layout B, and that the definitions read and write them as the paper says.
-use Rattle.std.specs.Prelude.{ℕ, ◌≡◌, refl, List, [], ◌∷◌}
+use Rattle.std.specs.Prelude.{ℕ, ◌≡◌, refl, List, [], ◌∷◌, Ok}
 use Rattle.bytes_le.specs.Numbers.{u16_at, u32_at, u64_at, i32_of, u16_bytes, u32_bytes, u64_bytes, bits_of}
 use Rattle.bytes_le.specs.Flags.{is_set, only_first, flag_word}
 use Rattle.layout.specs.declared.Component.{Component}
@@ -14,7 +14,7 @@ use Rattle.layout.specs.Samples.{init_of, bare_of, extension_of, one_page, layou
 use Rattle.page.specs.Form.{object_form, component_marks, records_at, component_form, head_form, form_by, page_form}
 use Rattle.page.specs.Content.{object_at, component_at, head_of, components_of}
 use Rattle.page.specs.Bytes.{object_bytes, words, longs, field_bytes, component_bytes, head_bytes, page_bytes}
-use Rattle.collector.specs.declared.Taken.{Taken}
+use Rattle.collector.specs.Taking.{Taken}
 use Rattle.collector.specs.declared.Answer.TheVariants.{Complete}
 use Rattle.collector.specs.Collector.{new_collector, counts_agree, collector_ok}
 use Rattle.collector.specs.Taking.{is_next, content_refusal, open_refusal, page_refusal, settled, page_in}
@@ -25,7 +25,7 @@ use Rattle.round_trip.specs.Pages.{written_pages}
 abbrev complete : ℕ → List Component → Taken
 complete generation cs =
     record {
-      answer = Complete;
+      answer = Ok Complete;
       collector = record { pages = 1; layout = packed generation cs };
     }
 

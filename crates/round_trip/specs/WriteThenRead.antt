@@ -1,7 +1,7 @@
 -- "What the writer writes reads back to the same layout": all pages of a valid layout, taken one after another from a
 -- new collector, end complete at that layout. The theorem is `written_read_back`, near the end. The pages that are
 -- written are those of one layout in their order, with its components, so the reader takes them as it takes any paging.
-use Rattle.std.specs.Prelude.{ℕ, zero, suc, ◌+◌, ◌≤◌, ◌<◌, ◌≡◌, refl, List, [], ◌∷◌, ◌++◌, map, true, false, length, take, drop}
+use Rattle.std.specs.Prelude.{ℕ, zero, suc, ◌+◌, ◌≤◌, ◌<◌, ◌≡◌, refl, List, [], ◌∷◌, ◌++◌, map, true, false, length, take, drop, Ok}
 use Rattle.std.proofs.Common.{sym, ap, ◌∙◌, arith, length-drop, ltb-true, le-ltb, lt-ltb}
 use Rattle.std.proofs.lemmas.List.{map-append, length-map}
 use Rattle.lists.specs.Bools.{bool_cases}
@@ -127,7 +127,7 @@ written_from_lem l v m fits (suc n) k most =
 pub written_read_back : (l : Layout) → valid l ≡ true → InMemory l
     → read_pages new_collector (written_pages l)
     ≡ record {
-      answer = Complete;
+      answer = Ok Complete;
       collector = record { pages = length (written_pages l); layout = blanked l };
     }
 unfolding written_pages

@@ -3,3 +3,4 @@ pub mod Unread
 pub mod FirstTarget
 pub mod Ends
 pub mod Gathered
+pub mod Objects

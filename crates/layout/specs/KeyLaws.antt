@@ -1,6 +1,7 @@
 -- The keys of object records: if they differ, the records do.
 use Rattle.std.specs.Prelude.{ℕ, ◌≤◌, ◌<◌, ◌≡◌, List, [], ◌∷◌, true, false, cond, eqb, length, get_or, take}
-use Rattle.std.proofs.Common.{sym, ap, ◌∙◌, arith, take-take, get_or-take, eq-eqb}
+use Rattle.std.proofs.Common.{sym, ap, ◌∙◌, arith, length-take-le, eq-eqb}
+use Rattle.std.proofs.lemmas.List.{length-map}
 use Rattle.std.proofs.lemmas.Bool.{false≢true}
 use Rattle.std.proofs.Math.ListN.{get_or-map}
 use Rattle.std.proofs.Math.Seq.{slice}
@@ -28,27 +29,22 @@ get_d_keys : (os : List Object) (i : ℕ) → get_or (keys_of os) i 0 ≡ key_of
 unfolding key_of
 get_d_keys os i = get_or-map key_of os i no_object
 
--- A list of at least n object records, and a row with the keys of the first n. If the record at place i is asked of those from
--- `start` on, it is asked of all before it.
-module _ (os : List Object) (keys : List ℕ) (n i : ℕ) (h : i < n) (k : n ≤ length os) (e : take n keys ≡ keys_of (take n os)) where
+-- If the record at place i is asked of those from `start` on, it is asked of all before it.
+module _ (os : List Object) (keys : List ℕ) (i : ℕ) (h : i < length os) (e : keys ≡ keys_of os) where
   keys_first : take i keys ≡ keys_of (take i os)
-  keys_first =
-      sym (take-take i n keys (omega arith)) ∙ ap (take i) e ∙ sym (take_map key_of i (take n os))
-      ∙ ap keys_of (take-take i n os (omega arith))
+  keys_first = rw e (sym (take_map key_of i os))
 
   key_at : get_or keys i 0 ≡ key_of (get_or os i no_object)
-  key_at =
-      sym (get_or-take n keys i 0 h) ∙ ap (λ (l : List ℕ). get_or l i 0) e
-      ∙ get_d_keys (take n os) i
-      ∙ ap key_of (get_or-take n os i no_object h)
+  key_at = rw e (get_d_keys os i)
 
   pub row_known : (o : Object) → get_or os i no_object ≡ o → (start : ℕ)
-      → start ≡ cond (elem eqb (get_or keys i 0) (take i keys)) 0 i
+      → start ≡ cond (elem eqb (get_or keys i 0) (take i keys)) 0 (length (take i keys))
       → (start ≤ i) × (elem same_object o (take i os) ≡ elem same_object o (slice start i os))
   row_known o is start s =
+      let n : length (take i keys) ≡ i = rw (e, length-take-le i (keys_of os) (omega (arith, length-map os key_of))) in
       bool_cases (elem eqb (get_or keys i 0) (take i keys))
       (λ a. let z : start ≡ 0 = s ∙ rw a in (omega arith, rw z))
-      (λ a. let z : start ≡ i = s ∙ rw a in
+      (λ a. let z : start ≡ i = s ∙ rw (a, n) in
       let none : elem same_object o (take i os) ≡ false =
       bool_cases (elem same_object o (take i os))
       (λ b. clash (key_alike o (take i os) b) (rw (key_at, keys_first, is) at a))

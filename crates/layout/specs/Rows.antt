@@ -55,6 +55,12 @@ length_named [] ns (suc n) h k = absurd (omega arith)
 length_named (t ∷ ts) [] (suc n) h k = absurd (omega arith)
 length_named (t ∷ ts) (m ∷ ns) (suc n) h k = omega (arith, length_named ts ns n (omega arith) (omega arith))
 
+-- Two rows of the same length name as many object records as each has places.
+pub named_length : (ts ns : List ℕ) → length ns ≡ length ts → length (named ts ns) ≡ length ts
+named_length [] ns h = refl
+named_length (t ∷ ts) [] h = absurd (omega arith)
+named_length (t ∷ ts) (n ∷ ns) h = ap suc (named_length ts ns (omega arith))
+
 -- The first object records that two rows name are named by the first places of the rows.
 pub take_named : (k : ℕ) (ts ns : List ℕ) → take k (named ts ns) ≡ named (take k ts) (take k ns)
 take_named zero ts ns = refl

@@ -4,33 +4,26 @@
 ghost use Rattle.std.specs.Prelude.{◌≡◌, true, cond, ◌+◌, ◌*◌, ◌≤◌, ◌<◌, eqb, length, take, get_or};
 ghost use Rattle.std.proofs.lemmas.List.Edits.{sets};
 ghost use Rattle.std.proofs.Math.Seq.{slice};
-ghost use Rattle.lists.specs.Tests.{every, first_failed};
+ghost use Rattle.lists.specs.Tests.{every, first_failed, found};
 ghost use Rattle.lists.specs.Counting.{fresh, elem};
 ghost use Rattle.layout.specs.Records.{view, records_of, records_in};
 ghost use Rattle.layout.specs.Rows.{targets_of, numbers_of, object_of, named, key_of, keys_of};
 ghost use Rattle.layout.specs.Distinct.{same_object, object_tests};
 ghost use Rattle.layout.specs.Known.{Passed};
 
-use crate::{Component, Layout, fields};
+use crate::Component;
 
-// The position of the first of n ids that equals one before it, or n. The tests of the first `from` are known to pass.
-pub fn id_fault(ids: [u16; 16], n: usize, from: usize) -> usize
-    requires { Passed from n (fresh eqb (take n ids)) }
-    ensures { result ≡ first_failed (fresh eqb (take n ids)) }
+// The position of the first id that equals one before it. The tests of the first `from` are known to pass.
+pub fn id_fault(ids: &[u16], from: usize) -> Option<usize>
+    requires { Passed from (length ids.now) (fresh eqb ids.now) }
+    ensures { result ≡ found (first_failed (fresh eqb ids.now)) (length ids.now) }
 {
-    let mut i = from;
-    'scan: while i < n {
-        let id = ids[i];
-        let mut j: usize = 0;
-        while j < i {
-            if id == ids[j] {
-                break 'scan;
-            }
-            j += 1;
+    for i in from..ids.len() {
+        if ids[..i].contains(&ids[i]) {
+            return Some(i);
         }
-        i += 1;
     }
-    i
+    None
 }
 
 // Do two object records name the same target and number?
@@ -47,149 +40,120 @@ fn key_of(target: u32, number: u64) -> u16
     ((number % 65536 + 257 * (target as u64 % 65536)) % 65536) as u16
 }
 
-// Stores the keys of the first n object records in the first places of a row.
-fn put_keys(targets: &[u32], numbers: &[u64], n: usize, keys: &mut [u16])
-    requires { (n ≤ length targets.now) × (n ≤ length numbers.now) × (n ≤ length keys.old) }
-    ensures { keys.new
-        ≡ sets keys.old 0 (keys_of (take n (named targets.now numbers.now))) }
+// Stores the keys of object records in a row.
+fn put_keys(targets: &[u32], numbers: &[u64], keys: &mut [u16])
+    requires { (length numbers.now ≡ length targets.now) × (length keys.old ≡ length targets.now) }
+    ensures { keys.new ≡ keys_of (named targets.now numbers.now) }
 {
-    let mut i: usize = 0;
-    while i < n {
+    for i in 0..targets.len() {
         keys[i] = key_of(targets[i], numbers[i]);
-        i += 1;
     }
 }
 
-// The place from which on the record at place i is asked of those before it: i if its key equals none of theirs, so
-// that none is asked, else 0. The loop has one way out, so that it is compiled to few instructions for many places.
-fn row_start(keys: &[u16], i: usize) -> usize
-    requires { i < length keys.now }
-    ensures { result ≡ cond (elem eqb (get_or keys.now i 0) (take i keys.now)) 0 i }
+// The place from which on a record with this key is asked of those before it: the place after them if its key equals
+// none of theirs, so that none is asked, else 0. The loop has one way out, so that it is compiled to few instructions
+// for many places.
+fn row_start(before: &[u16], key: u16) -> usize
+    ensures { result ≡ cond (elem eqb key before.now) 0 (length before.now) }
 {
-    let key = keys[i];
     let mut alike = false;
-    let mut j: usize = 0;
-    while j < i {
-        alike = alike | (key == keys[j]);
-        j += 1;
+    for earlier in before {
+        alike |= key == *earlier;
     }
-    if alike {
-        return 0;
-    }
-    i
+    if alike { 0 } else { before.len() }
 }
 
-// The position of the first of n object records that names the target and number of one before it, or n. The tests of
-// the first `from` are known to pass; `keys` holds the keys of the records.
-fn repeat_by_keys(targets: &[u32], numbers: &[u64], keys: &[u16], n: usize, from: usize) -> usize
-    requires { (n ≤ length targets.now)
-        × (n ≤ length numbers.now)
-        × (from ≤ n)
-        × (every (take from (fresh same_object (take n (named targets.now numbers.now)))) ≡ true)
-        × (n ≤ length keys.now)
-        × (take n keys.now ≡ keys_of (take n (named targets.now numbers.now))) }
-    ensures { result
-        ≡ first_failed (fresh same_object (take n (named targets.now numbers.now))) }
+// The position of the first object record that equals one before it. The tests of the first `from` are known to pass,
+// and the keys of all are known.
+fn repeat_by_keys(targets: &[u32], numbers: &[u64], keys: &[u16], from: usize) -> Option<usize>
+    requires { let os = named targets.now numbers.now in
+        (length numbers.now ≡ length targets.now)
+        × (keys.now ≡ keys_of os)
+        × Passed from (length os) (fresh same_object os) }
+    ensures { let os = named targets.now numbers.now in
+        result ≡ found (first_failed (fresh same_object os)) (length os) }
 {
-    let mut later = from;
-    'scan: while later < n {
-        let target = targets[later];
-        let number = numbers[later];
-        let mut earlier = row_start(keys, later);
-        while earlier < later {
-            if same_object(target, number, targets[earlier], numbers[earlier]) {
-                break 'scan;
+    'scan: {
+        for later in from..targets.len() {
+            for earlier in row_start(&keys[..later], keys[later])..later {
+                if targets[later] == targets[earlier] && numbers[later] == numbers[earlier] {
+                    break 'scan Some(later);
+                }
             }
-            earlier += 1;
         }
-        later += 1;
+        None
     }
-    later
 }
 
-// The same, if the keys are not known yet: `keys` has room for them, and they are stored in its first places.
+// The same, if the keys are not known yet: they are stored in a row of their own.
 pub fn object_repeat(
     targets: &[u32],
     numbers: &[u64],
     keys: &mut [u16],
-    n: usize,
     from: usize,
-) -> usize
-    requires { (n ≤ length targets.now)
-        × (n ≤ length numbers.now)
-        × (from ≤ n)
-        × (every (take from (fresh same_object (take n (named targets.now numbers.now)))) ≡ true)
-        × (n ≤ length keys.old) }
-    ensures { let os = take n (named targets.now numbers.now) in
-        (result ≡ first_failed (fresh same_object os))
-        × (keys.new ≡ sets keys.old 0 (keys_of os)) }
+) -> Option<usize>
+    requires { let os = named targets.now numbers.now in
+        (length numbers.now ≡ length targets.now)
+        × (length keys.old ≡ length targets.now)
+        × Passed from (length os) (fresh same_object os) }
+    ensures { let os = named targets.now numbers.now in
+        (result ≡ found (first_failed (fresh same_object os)) (length os))
+        × (keys.new ≡ keys_of os) }
 {
-    put_keys(targets, numbers, n, keys);
-    repeat_by_keys(targets, numbers, keys, n, from)
+    put_keys(targets, numbers, keys);
+    repeat_by_keys(targets, numbers, keys, from)
 }
 
 // Copies the object records of a component to the rows, from place `at` on; gives the place after them.
-pub fn put_records(c: Component, at: usize, targets: &mut [u32], numbers: &mut [u64]) -> usize
+pub fn put_records(c: &Component, at: usize, targets: &mut [u32], numbers: &mut [u64]) -> usize
     requires { (at + 16 ≤ length targets.old) × (at + 16 ≤ length numbers.old) }
-    ensures { (result ≡ at + length (records_of c))
+    ensures { (result ≡ at + length (records_of c.now))
         × (result ≤ at + 16)
-        × (targets.new ≡ sets targets.old at (targets_of (records_of c)))
-        × (numbers.new ≡ sets numbers.old at (numbers_of (records_of c))) }
+        × (targets.new ≡ sets targets.old at (targets_of (records_of c.now)))
+        × (numbers.new ≡ sets numbers.old at (numbers_of (records_of c.now))) }
 {
-    let n = fields::record_count(c);
-    let objects = c.objects;
-    let mut j: usize = 0;
-    while j < n {
-        let o = objects[j];
-        targets[at + j] = o.target;
-        numbers[at + j] = o.number;
-        j += 1;
+    let objects = c.objects();
+    for (i, o) in objects.iter().enumerate() {
+        targets[at + i] = o.target;
+        numbers[at + i] = o.number;
     }
-    at + n
+    at + objects.len()
 }
 
-// Copies the object records of the components from `first` up to `end` to the rows, from place `at` on; gives the place
-// after them.
+// Copies the object records of components to the rows, from place `at` on; gives the place after them.
 pub fn put_all(
-    l: Layout,
-    first: usize,
-    end: usize,
+    components: &[Component],
     at: usize,
     targets: &mut [u32],
     numbers: &mut [u64],
 ) -> usize
-    requires { (first ≤ end)
-        × (end ≤ 16)
-        × (at ≤ 16 * first)
-        × (length targets.old ≡ 256)
-        × (length numbers.old ≡ 256) }
-    ensures { let os = records_in (slice first end l.components) in
+    requires { (at + 16 * length components.now ≤ length targets.old)
+        × (at + 16 * length components.now ≤ length numbers.old) }
+    ensures { let os = records_in components.now in
         (result ≡ at + length os)
-        × (result ≤ 16 * end)
+        × (result ≤ at + 16 * length components.now)
         × (targets.new ≡ sets targets.old at (targets_of os))
         × (numbers.new ≡ sets numbers.old at (numbers_of os)) }
 {
     let mut p = at;
-    let mut i = first;
-    while i < end {
-        p = put_records(l.components[i], p, targets, numbers);
-        i += 1;
+    for c in components {
+        p = put_records(c, p, targets, numbers);
     }
     p
 }
 
-// Do all object records of the layout differ? Those of the first `from` components are known to.
-pub fn objects_differ(l: Layout, from: usize) -> bool
-    requires { (from ≤ l.count)
-        × (l.count ≤ 16)
-        × (every (take (length (records_in (take from (view l)))) (object_tests (view l))) ≡ true) }
-    ensures { result ≡ every (object_tests (view l)) }
+// Do all object records of the components differ? Those of the first `from` components are known to.
+pub fn objects_differ(components: &[Component], from: usize) -> bool
+    requires { let cs = components.now in
+        (from ≤ length cs)
+        × (length cs ≤ 16)
+        × (every (take (length (records_in (take from cs))) (object_tests cs)) ≡ true) }
+    ensures { result ≡ every (object_tests components.now) }
 {
-    let n = l.count;
-    let mut targets = [0u32; 256];
-    let mut numbers = [0u64; 256];
-    let mut keys = [0u16; 256];
-    let known = put_all(l, 0, from, 0, &mut targets, &mut numbers);
-    let all = put_all(l, from, n, known, &mut targets, &mut numbers);
-    object_repeat(&targets, &numbers, &mut keys, all, known) == all
+    let mut targets = [0; 256];
+    let mut numbers = [0; 256];
+    let mut keys = [0; 256];
+    let known = put_all(&components[..from], 0, &mut targets, &mut numbers);
+    let all = put_all(&components[from..], known, &mut targets, &mut numbers);
+    object_repeat(&targets[..all], &numbers[..all], &mut keys[..all], known).is_none()
 }

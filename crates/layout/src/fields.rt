@@ -1,54 +1,60 @@
 // The fields of one component (refusal 6).
-ghost use Rattle.std.specs.Prelude.{◌≡◌, true, ◌≤◌, eqb, length, take};
-ghost use Rattle.lists.specs.Tests.{every, each, first_failed};
-ghost use Rattle.layout.specs.Records.{count_of, records_of, view};
+ghost use Rattle.std.specs.Prelude.{◌≡◌, ◌≤◌, eqb, length, take};
+ghost use Rattle.lists.specs.Tests.{every, each, first_failed, found};
+ghost use Rattle.layout.specs.Records.{count_of, records_of};
 ghost use Rattle.layout.specs.Fields.{nonzero_multiple, extension_ok, striped_ok, kind_ok, is_minus_one, is_target};
 ghost use Rattle.layout.specs.Fields.{first_target_ok, target_ok, fields_ok, field_tests};
-ghost use Rattle.layout.specs.Known.{Passed, RulesKnown};
+ghost use Rattle.layout.specs.Known.{Passed};
 
-use crate::{Component, Layout, Object};
+use crate::{Component, Neighbour, Object};
+
+// The stripe fields of a component, and its extension size.
+#[derive(Clone, Copy)]
+pub struct StripeFields {
+    pub count: u16,
+    pub size: u32,
+    pub extension: u64,
+}
 
 // Is n a nonzero multiple of 65,536?
+#[tactic(auto, unfolding(crate::specs::Fields::nonzero_multiple))]
 pub fn nonzero_multiple(n: u64) -> bool
     ensures { result ≡ nonzero_multiple n }
 {
-    (0 < n) & (n % 65536 == 0)
+    0 < n && n % 65536 == 0
 }
 
-// Are these the extent, the stripe fields and the extension size of an extension?
-pub fn extension_ok(begin: u64, end: u64, count: u16, size: u32, extension: u64) -> bool
-    ensures { result ≡ extension_ok begin end count size extension }
+// Are these the stripe fields of an extension with this extent?
+#[tactic(auto, unfolding(crate::specs::Fields::extension_ok))]
+pub fn extension_ok(c: Neighbour, fields: StripeFields) -> bool
+    ensures { result ≡ extension_ok c.begin c.end fields.count fields.size fields.extension }
 {
-    (begin < end) & (count == 0) & (size == 0) & nonzero_multiple(extension)
+    c.begin < c.end && fields.count == 0 && fields.size == 0 && nonzero_multiple(fields.extension)
 }
 
-// Are these the extent, the stripe fields and the extension size of a component that is not an extension?
-pub fn striped_ok(init: bool, begin: u64, end: u64, count: u16, size: u32, extension: u64) -> bool
-    ensures { result ≡ striped_ok init begin end count size extension }
+// Are these the stripe fields of a component that is not an extension, with this extent?
+#[tactic(auto, unfolding(crate::specs::Fields::striped_ok))]
+pub fn striped_ok(c: Neighbour, fields: StripeFields) -> bool
+    ensures { result ≡ striped_ok c.init c.begin c.end fields.count fields.size fields.extension }
 {
-    (1 <= count)
-        & (count <= 16)
-        & nonzero_multiple(size as u64)
-        & (extension == 0)
-        & (!init | (begin < end))
+    1 <= fields.count
+        && fields.count <= 16
+        && nonzero_multiple(fields.size.into())
+        && fields.extension == 0
+        && (!c.init || c.begin < c.end)
 }
 
-// Are these the extent, the stripe fields and the extension size of a component of either kind?
-pub fn kind_ok(
-    is_extension: bool,
-    init: bool,
-    begin: u64,
-    end: u64,
-    count: u16,
-    size: u32,
-    extension: u64,
-) -> bool
-    ensures { result ≡ kind_ok is_extension init begin end count size extension }
+// Are these the stripe fields of a component of its kind?
+#[tactic(auto, unfolding(crate::specs::Fields::kind_ok))]
+pub fn kind_ok(c: Neighbour, fields: StripeFields) -> bool
+    ensures { result
+        ≡ kind_ok c.extension c.init c.begin c.end fields.count fields.size fields.extension }
 {
-    if is_extension {
-        return extension_ok(begin, end, count, size, extension);
+    if c.extension {
+        extension_ok(c, fields)
+    } else {
+        striped_ok(c, fields)
     }
-    striped_ok(init, begin, end, count, size, extension)
 }
 
 // Is the signed number -1?
@@ -62,10 +68,7 @@ pub fn is_minus_one(z: i32) -> bool
 pub fn is_target(z: i32, target: u32) -> bool
     ensures { result ≡ is_target z target }
 {
-    if target < 2147483648 {
-        return z == target as i32;
-    }
-    false
+    i64::from(z) == i64::from(target)
 }
 
 // How many object records the component's array holds: its stripe count if it is init, at most 16.
@@ -76,102 +79,63 @@ pub fn record_count(c: Component) -> usize
         × (take result c.objects ≡ records_of c) }
 {
     if c.init {
-        if c.stripe_count < 16 {
-            return c.stripe_count as usize;
-        }
-        return 16;
+        usize::from(c.stripe_count).min(16)
+    } else {
+        0
     }
-    0
 }
 
 // Is the first target -1, or, if the component is init, that of the first object record?
 pub fn first_target_ok(c: Component) -> bool
     ensures { result ≡ first_target_ok c.init c.first_target (records_of c) }
 {
-    if c.init {
-        let n = record_count(c);
-        if n == 0 {
-            return false;
-        }
-        let objects = c.objects;
-        let o = objects[0];
-        return is_target(c.first_target, o.target);
+    if !c.init {
+        return is_minus_one(c.first_target);
     }
-    is_minus_one(c.first_target)
+    match c.objects().first() {
+        Some(o) => is_target(c.first_target, o.target),
+        None => false,
+    }
 }
 
-// Are the targets of the first n object records at most 65,534?
-pub fn targets_ok(objects: [Object; 16], n: usize) -> bool
-    requires { n ≤ 16 }
-    ensures { result ≡ every (each target_ok (take n objects)) }
+// Are the targets of the object records at most 65,534?
+pub fn targets_ok(objects: &[Object]) -> bool
+    ensures { result ≡ every (each target_ok objects.now) }
 {
-    let mut i: usize = 0;
-    while i < n {
-        let o = objects[i];
-        if 65534 < o.target {
-            return false;
-        }
-        i += 1;
-    }
-    true
+    objects.iter().all(|o| o.target <= 65534)
 }
 
 // Does the component keep the rules of the fields?
+#[tactic(auto, unfolding(crate::specs::Fields::fields_ok))]
 pub fn fields_ok(c: Component) -> bool
     ensures { result ≡ fields_ok c }
 {
-    let n = record_count(c);
-    let objects = c.objects;
-    let kind = kind_ok(
-        c.extension,
-        c.init,
-        c.begin,
-        c.end,
-        c.stripe_count,
-        c.stripe_size,
-        c.extension_size,
-    );
-    (1 <= c.id)
-        & (c.begin <= c.end)
-        & !(c.init & c.extension)
-        & kind
-        & first_target_ok(c)
-        & targets_ok(objects, n)
-        & has_count(c.init, c.stripe_count, n)
+    let fields = StripeFields {
+        count: c.stripe_count,
+        size: c.stripe_size,
+        extension: c.extension_size,
+    };
+    1 <= c.id
+        && c.begin <= c.end
+        && !(c.init && c.extension)
+        && kind_ok(c.into(), fields)
+        && first_target_ok(c)
+        && targets_ok(c.objects())
+        && has_count(c.init, c.stripe_count, c.objects().len())
 }
 
 // Are there n object records, as the flag and the stripe count say?
 pub fn has_count(init: bool, stripe_count: u16, n: usize) -> bool
     ensures { result ≡ eqb n (count_of init stripe_count) }
 {
-    if init {
-        return n == stripe_count as usize;
-    }
-    n == 0
+    n == if init { stripe_count.into() } else { 0 }
 }
 
-// The position of the first component that breaks the rules of the fields, or the count. The first `from` are known to
-// keep them.
-pub fn field_fault(l: Layout, from: usize) -> usize
-    requires { Passed from l.count (field_tests (view l)) }
-    ensures { result ≡ first_failed (field_tests (view l)) }
+// The position of the first component that breaks the rules of the fields. The first `from` are known to keep them.
+pub fn field_fault(components: &[Component], from: usize) -> Option<usize>
+    requires { Passed from (length components.now) (field_tests components.now) }
+    ensures { result ≡ found (first_failed (field_tests components.now)) (length components.now) }
 {
-    let n = l.count;
-    let mut i = from;
-    while i < n {
-        if !fields_ok(l.components[i]) {
-            return i;
-        }
-        i += 1;
-    }
-    i
-}
-
-// Do all components keep the rules of the fields? The first `from` are known to break no rule with pages outstanding.
-pub fn fields_hold(l: Layout, from: usize) -> bool
-    requires { RulesKnown from l }
-    ensures { result ≡ every (field_tests (view l)) }
-{
-    let n = l.count;
-    field_fault(l, from) == n
+    let i = components[from..].iter().position(|c| !fields_ok(*c))?;
+    Some(from + i)
 }

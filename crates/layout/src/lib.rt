@@ -1,12 +1,13 @@
 // The records of a layout and the rules that they keep.
 #![tactic(auto)]
 
-ghost use Rattle.std.specs.Prelude.{◌≡◌, true, ◌≤◌, take};
+ghost use Rattle.std.specs.Prelude.{◌≡◌, true, ◌≤◌, length};
 ghost use Rattle.lists.specs.Tests.{found};
 ghost use Rattle.refusals.specs.Refusals.{number_in};
-ghost use Rattle.layout.specs.Records.{view, records_of, outline_of, no_layout, packed};
+ghost use Rattle.layout.specs.Records.{view, records_of, neighbour_of, outline_of, no_layout, packed};
+ghost use Rattle.layout.specs.Neighbours.{is_empty};
 ghost use Rattle.layout.specs.Rules.{later_rule_broken, rule_broken, valid};
-ghost use Rattle.layout.specs.Known.{RulesKnown};
+ghost use Rattle.layout.specs.Known.{RulesKnown, Kept};
 ghost use Rattle.layout.specs.Holder.{holder_of};
 
 use refusals::Refusal;
@@ -56,6 +57,28 @@ pub struct Neighbour {
     pub end: u64,
 }
 
+impl Neighbour {
+    // Is the extent empty?
+    pub fn is_empty(&self) -> bool
+        ensures { result ≡ is_empty self.now.begin self.now.end }
+    {
+        self.begin == self.end
+    }
+}
+
+impl From<Component> for Neighbour {
+    ghost from_gives = { λ c n. n ≡ neighbour_of c };
+
+    fn from(c: Component) -> Self {
+        Neighbour {
+            init: c.init,
+            extension: c.extension,
+            begin: c.begin,
+            end: c.end,
+        }
+    }
+}
+
 // A layout: its components are in the first `count` places, in the order of the file. `complete` says that these are
 // all of them: no pages are outstanding. A layout that is not complete is not valid.
 #[derive(Clone, Copy)]
@@ -103,6 +126,7 @@ const NO_NEIGHBOUR: Neighbour = Neighbour {
 };
 
 // The blank layout: it has no components and is not complete, and its places are blank.
+#[tactic(auto, unfolding(crate::specs::Records::pack_components))]
 pub fn no_layout() -> Layout
     ensures { result ≡ no_layout }
 {
@@ -114,21 +138,17 @@ pub fn no_layout() -> Layout
     }
 }
 
-// The complete layout of a generation and the first `count` of the components; the rest of its places blank. Every
-// layout with components that is given back is made here.
-pub fn pack(generation: u32, count: usize, components: [Component; 16]) -> Layout
-    requires { count ≤ 16 }
-    ensures { result ≡ packed generation (take count components) }
+// The complete layout of a generation and at most 16 components; the rest of its places blank. Every layout with
+// components that is given back is made here.
+pub fn pack(generation: u32, components: &[Component]) -> Layout
+    requires { length components.now ≤ 16 }
+    ensures { result ≡ packed generation components.now }
 {
     let mut places = [NO_COMPONENT; 16];
-    let mut i: usize = 0;
-    while i < count {
-        places[i] = components[i];
-        i += 1;
-    }
+    places[..components.len()].copy_from_slice(components);
     Layout {
-        generation: generation,
-        count: count,
+        generation,
+        count: components.len(),
         components: places,
         complete: true,
     }
@@ -142,47 +162,37 @@ pub struct Outline {
     pub ids: [u16; 16],
 }
 
-// The outline of a layout; the rest of its places blank.
-pub fn outline_of(l: Layout) -> Outline
-    requires { l.count ≤ 16 }
-    ensures { result ≡ outline_of (view l) }
+// The outline of at most 16 components; the rest of its places blank.
+pub fn outline_of(components: &[Component]) -> Outline
+    requires { length components.now ≤ 16 }
+    ensures { result ≡ outline_of components.now }
 {
-    let n = l.count;
     let mut neighbours = [NO_NEIGHBOUR; 16];
-    let mut ids = [0u16; 16];
-    let mut i: usize = 0;
-    while i < n {
-        let c = l.components[i];
-        neighbours[i] = Neighbour {
-            init: c.init,
-            extension: c.extension,
-            begin: c.begin,
-            end: c.end,
-        };
+    let mut ids = [0; 16];
+    for (i, c) in components.iter().enumerate() {
+        neighbours[i] = (*c).into();
         ids[i] = c.id;
-        i += 1;
     }
-    Outline {
-        neighbours: neighbours,
-        ids: ids,
-    }
+    Outline { neighbours, ids }
 }
 
 // Do the components keep the rules of neighbours and of distinctness, asked in this order?
-fn check_later_rules(l: Layout, more: bool, from: usize) -> Result<(), Refusal>
-    requires { RulesKnown from l }
-    ensures { number_in result ≡ later_rule_broken more (view l) }
+fn check_later_rules(components: &[Component], more: bool, from: usize) -> Result<(), Refusal>
+    requires { Kept from components.now }
+    ensures { number_in result ≡ later_rule_broken more components.now }
 {
-    let n = l.count;
-    let outline = outline_of(l);
-    if !neighbours::neighbours_hold(outline.neighbours, n, more, from) {
+    let n = components.len();
+    let outline = outline_of(components);
+    if !neighbours::neighbours_hold(&outline.neighbours[..n], more, from) {
         return Err(Refusal::Neighbours);
     }
-    let ids_differ = distinct::id_fault(outline.ids, n, from) == n;
-    if ids_differ & distinct::objects_differ(l, from) {
-        return Ok(());
+    if distinct::id_fault(&outline.ids[..n], from).is_some() {
+        return Err(Refusal::Distinctness);
     }
-    Err(Refusal::Distinctness)
+    if !distinct::objects_differ(components, from) {
+        return Err(Refusal::Distinctness);
+    }
+    Ok(())
 }
 
 // Do the layout's components keep the component rules? If not, the refusal is the first of fields, neighbours and
@@ -192,10 +202,11 @@ pub fn check_rules_from(l: Layout, more: bool, from: usize) -> Result<(), Refusa
     requires { RulesKnown from l }
     ensures { number_in result ≡ rule_broken more (view l) }
 {
-    if !fields::fields_hold(l, from) {
+    let components = l.components();
+    if fields::field_fault(components, from).is_some() {
         return Err(Refusal::Fields);
     }
-    check_later_rules(l, more, from)
+    check_later_rules(components, more, from)
 }
 
 // The same, if nothing is known of the components.

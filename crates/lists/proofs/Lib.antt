@@ -2,3 +2,4 @@ pub mod Loops
 pub mod TestLaws
 pub mod CountingLaws
 pub mod Iterators
+pub mod Found

@@ -1,6 +1,6 @@
 -- What a loop over the first n elements of an array asks for: the part from i on is the element at i and the part after it.
-use Rattle.std.specs.Prelude.{ℕ, zero, suc, ◌+◌, ◌≤◌, ◌<◌, ◌≡◌, refl, List, [], ◌∷◌, ◌++◌, map, length, get_or, take, drop, set}
-use Rattle.std.proofs.Common.{sym, ap, ◌∙◌, append-nil, arith, add-one, add-zero, add-suc, suc-add, length-take, drop_of_length-le, drop-cons, get_or-take, take-suc, length-take-le}
+use Rattle.std.specs.Prelude.{ℕ, zero, suc, ◌+◌, ◌-◌, ◌≤◌, ◌<◌, ◌≡◌, refl, List, [], ◌∷◌, ◌++◌, map, length, get_or, take, drop, set}
+use Rattle.std.proofs.Common.{sym, ap, ◌∙◌, append-nil, arith, add-one, add-zero, add-suc, suc-add, length-take, drop_of_length-le, drop-cons, get_or-take, take-suc, length-take-le, length-drop, take_all}
 use Rattle.std.proofs.lemmas.List.{map-append, length-map, set_at, get_or_at}
 use Rattle.std.proofs.Math.Seq.{slice, take-append_seam, take-length, drop-length, length_front, append_snoc}
 use Rattle.std.proofs.lemmas.List.Edits.{sets, sets-eq}
@@ -17,6 +17,10 @@ module _ {A : Type 0} (l : List A) (n i : ℕ) where
 -- The first i + 1 elements are the first i and the one at i.
 pub take_next : {A : Type 0} (l : List A) (i : ℕ) (d : A) → i < length l → take (i + 1) l ≡ take i l ++ (get_or l i d ∷ [])
 take_next l i d h = rw add-one (take-suc l i d h)
+
+-- The part from i on is the element at i and the part after it.
+pub drop_next : {A : Type 0} (l : List A) (i : ℕ) (d : A) → i < length l → drop i l ≡ get_or l i d ∷ drop (i + 1) l
+drop_next l i d h = rw add-one (drop-cons l i d h)
 
 -- Two runs of stores, one after the other, are one.
 pub sets_append : {A : Type 0} (l : List A) (i : ℕ) (a b : List A) → sets l i (a ++ b) ≡ sets (sets l i a) (i + length a) b
@@ -42,6 +46,14 @@ sets_next {A} l at j x xs =
 -- A list stored from the first place of a list that is at least as long is in its first places.
 pub take_sets : {A : Type 0} (l v : List A) → length v ≤ length l → take (length v) (sets l 0 v) ≡ v
 take_sets l v h = rw (sets-eq v l 0 (omega arith)) (take-append_seam v (drop (0 + length v) l))
+
+-- A list stored from the first place of a list of the same length is all of it.
+pub sets_whole : {A : Type 0} (l v : List A) → length v ≡ length l → sets l 0 v ≡ v
+sets_whole l v h = rw (sets-eq v l 0 (omega arith), drop_of_length-le l {i = 0 + length v} (omega arith)) (append-nil v)
+
+-- The part of a list from a position to its end.
+pub part_rest : {A : Type 0} (l : List A) (k : ℕ) → take (length l - k) (drop k l) ≡ drop k l
+part_rest l k = take_all (length l - k) (drop k l) (omega (arith, length-drop k l))
 
 -- What is taken of each element of a list, as a list of its own: of the first k elements, and stored in a run.
 module _ {A B : Type 0} (f : A → B) where

@@ -1,32 +1,19 @@
--- `layout::pack` meets its contract: what all stores give is what the stores from i on give to the places as they are.
-use mathlib.Core.Path.{◌≡◌, refl, sym, ◌∙◌}
-use mathlib.Core.Bool.{true}
-use native.Mathlib.Omega.{arith}
-use native.Mathlib.Numerals.{add-one}
-use lib.ListN.{length, take}
-use lib.Seq.{length-take-le}
-use Rattle.lists.specs.Slices.{slice_next, slice_done}
-use Rattle.layout.specs.Records.{pack_components}
-use Rattle.layout.proofs.Unread.{unread}
+-- `layout::pack` meets its contract: the components are in the first places, and the rest are as they were.
+use Rattle.std.specs.Prelude.{◌≡◌, ◌≤◌, List, ◌++◌, length, drop, replicate, true}
+use Rattle.std.proofs.Common.{arith, zero-add, sym}
+use Rattle.std.proofs.lemmas.List.Edits.{sets-eq}
 use borrow.Author.Rules.{rules}
+use Rattle.layout.specs.declared.Component.{Component}
+use Rattle.layout.specs.Records.{no_component, pack_components}
 use Rattle.layout.proofs.pack.Goals as goal
 
-pub loop-i-preserved : goal.loop-i-preserved
-loop-i-preserved c =
-    let p = c in
-    let a = p.args in
-    let e = slice_next a.components a.count p.loop-i.i unread c.loop-i-test.true (omega arith) in
-    (omega arith, p.loop-i.invariant.1 ∙ rw (e, add-one))
+packed_after : (cs : List Component) → length cs ≤ 16 → cs ++ drop (length cs) (replicate 16 no_component) ≡ pack_components cs
+unfolding pack_components
+packed_after cs h = rw zero-add at (sym (sets-eq cs (replicate 16 no_component) 0 (omega arith)))
 
 pub returns : goal.returns
-unfolding pack_components
 returns c =
-    let p = c in
-    let a = p.args in
-    let e = slice_done a.components a.count p.loop-i.i c.loop-i-test.false in
-    let n : a.count ≡ length (take a.count a.components) = sym (length-take-le a.count a.components (omega arith)) in
-    let x : p.loop-i.places ≡ pack_components (take a.count a.components) = sym (p.loop-i.invariant.1 ∙ rw e) in
-    λ i. record { generation = a.generation; count = n i; components = x i; complete = true }
-
-pub loop-i-init : goal.loop-i-init
-loop-i-init c = (search rules, refl)
+    let cs = c.args.components.now in
+    let w : c.copy_from_slice.new.self ≡ cs = search rules in
+    let x : c.copy_from_slice.new.self ++ drop (length cs) (replicate 16 no_component) ≡ pack_components cs = rw w (packed_after cs c.requires) in
+    λ i. record { generation = c.args.generation; count = length cs; components = x i; complete = true }

@@ -1,36 +1,28 @@
 -- `layout::distinct::put_keys` meets its contract: all stores give what those of the records from i on give to the row.
-use Prim.Native.Nat.{suc, ◌<◌}
-use mathlib.Core.Path.{refl, sym, ◌∙◌}
-use native.Mathlib.Omega.{arith}
-use native.Mathlib.Numerals.{add-one}
-use lib.ListN.{length, length-set}
-use Rattle.lists.specs.Slices.{slice_next, slice_done}
+use Rattle.std.proofs.Common.{◌≡◌, refl, sym, ◌∙◌, length, arith, add-one, drop-cons, drop_of_length-le}
+use Rattle.std.proofs.lemmas.List.{length-map}
+use Rattle.std.proofs.Math.ListN.{length-set}
+use Rattle.lists.specs.Slices.{sets_whole}
 use Rattle.layout.specs.Records.{no_object}
-use Rattle.layout.specs.Rows.{named, get_d_named, length_named}
-use borrow.Author.Rules.{rules}
+use Rattle.layout.specs.Rows.{named, key_of, get_d_named, named_length}
 use Rattle.layout.proofs.distinct.put_keys.Goals as goal
+
+pub loop-i-init : goal.loop-i-init
+loop-i-init c = (c.requires.1, refl)
 
 pub loop-i-preserved : goal.loop-i-preserved
 loop-i-preserved c =
-    let p = c in
-    let a = p.args in
-    let ts = a.targets.now in
-    let ns = a.numbers.now in
-    let t : p.loop-i.i < length ts = omega arith in
-    let n : p.loop-i.i < length ns = omega arith in
-    let next = slice_next (named ts ns) a.n p.loop-i.i no_object c.loop-i-test.true
-    (length_named ts ns (suc p.loop-i.i) t n) in (
-      omega arith,
-      length-set p.loop-i.keys p.loop-i.i c.key_of.result ∙ p.loop-i.invariant.1,
-      p.loop-i.invariant.2 ∙ rw (next, get_d_named ts ns p.loop-i.i t n, ← c.key_of.ensures, add-one),
-    )
+    let l = c.loop-i in
+    let ts = c.args.targets.now in
+    let ns = c.args.numbers.now in
+    let n : length (named ts ns) ≡ length ts = named_length ts ns c.requires.0 in
+    let e = drop-cons (named ts ns) l.i no_object (omega arith) in
+    let o = get_d_named ts ns l.i (omega arith) (omega arith) in
+    (length-set l.keys l.i c.key_of.result ∙ l.invariant.0, l.invariant.1 ∙ rw (e, o, ← c.key_of.ensures, add-one))
 
 pub returns : goal.returns
 returns c =
-    let p = c in
-    let a = p.args in
-    sym (p.loop-i.invariant.2
-    ∙ rw (slice_done (named a.targets.now a.numbers.now) a.n p.loop-i.i c.loop-i-test.false))
-
-pub loop-i-init : goal.loop-i-init
-loop-i-init c = (search rules, refl, refl)
+    let l = c.loop-i in
+    let os = named c.args.targets.now c.args.numbers.now in
+    let n : length os ≡ length c.args.targets.now = named_length c.args.targets.now c.args.numbers.now c.requires.0 in
+    sym (l.invariant.1 ∙ rw (drop_of_length-le os {i = l.i} (omega arith))) ∙ sets_whole c.args.keys.now _ (length-map os key_of ∙ n ∙ sym c.requires.1)

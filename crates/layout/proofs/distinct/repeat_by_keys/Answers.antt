@@ -1,115 +1,97 @@
--- `layout::distinct::repeat_by_keys` meets its contract: outside, the position is `later` and that among the records from there
--- on; inside, the record is asked of those from `earlier` to `later`, or of none if its key equals none of theirs.
-use Prim.Native.Nat.{ℕ, suc, ◌+◌, ◌<◌}
-use mathlib.Core.Path.{◌≡◌, sym, ◌∙◌}
-use mathlib.Core.List.{List}
-use mathlib.Core.Bool.{true, false}
-use native.Mathlib.Omega.{arith}
-use lib.ListN.{length, get_or, take}
-use lib.Seq.{slice}
-use Rattle.lists.specs.Tests.{first_failed, along}
-use Rattle.lists.specs.Counting.{elem, unseen, seen_with}
-use Rattle.lists.proofs.Loops.{scan_start, scan_pass, scan_hit, scan_done, row_pass, row_hit, row_done}
+-- `layout::distinct::repeat_by_keys` meets its contract: outside, the records before `later` differ; inside, the record is asked of
+-- those from `earlier` to `later`, or of none if its key equals none of theirs.
+use Rattle.std.proofs.Common.{◌≡◌, true, false, eqb, length, get_or, sym, ◌∙◌, arith, length-take-le, eq-eqb, ne_eqb}
+use Rattle.std.proofs.lemmas.Bool.{eqb-true}
+use Rattle.lists.specs.Bools.{bool_cases}
+use Rattle.std.proofs.lemmas.List.{length-map}
+use Rattle.lists.proofs.Loops.{row_pass, row_hit, row_done}
+use Rattle.lists.proofs.Found.{fresh_start, fresh_fault, fresh_pass, fresh_end}
 use Rattle.layout.specs.declared.Object.{Object}
 use Rattle.layout.specs.Records.{no_object}
-use Rattle.layout.specs.Rows.{object_of, named, get_d_named, length_named}
+use Rattle.layout.specs.Rows.{object_of, named, key_of, get_d_named, named_length}
 use Rattle.layout.specs.KeyLaws.{row_known}
 use Rattle.layout.specs.Distinct.{same_object}
-use borrow.Author.Rules.{rules}
 use Rattle.layout.proofs.distinct.repeat_by_keys.Goals as goal
+use Rattle.layout.proofs.distinct.repeat_by_keys.Goals.{else-targets-later-via-then-targets-later+else-numbers-later, else-targets-later-via-else-targets-later}
 
--- What one step of the row and one of the scan come to if the object records are named by two rows of numbers.
-module _ (ts ns : List ℕ) (i : ℕ) (t : i < length ts) (n : i < length ns) where
-  abbrev at : Object
-  at = object_of (get_or ts i 0) (get_or ns i 0)
+-- Two object records are the same exactly if they name the same target and number.
+same_is : (a b : Object) → a.target ≡ b.target → a.number ≡ b.number → same_object a b ≡ true
+unfolding same_object
+same_is a b t n = rw (eq-eqb a.target b.target t, eq-eqb a.number b.number n)
 
-  there : i < length (named ts ns)
-  there = length_named ts ns (suc i) t n
+same_not : (a b : Object) → ((a.target ≡ b.target) × (a.number ≡ b.number) → ⊥) → same_object a b ≡ false
+unfolding same_object
+same_not a b f =
+    bool_cases (eqb a.target b.target)
+    (λ e. rw (e, ne_eqb a.number b.number (λ h. f (eqb-true a.target b.target e, h))))
+    (λ e. rw e)
 
-  row_on : (later : ℕ) (o : Object) → i < later → same_object o at ≡ false
-      → elem same_object o (slice i later (named ts ns)) ≡ elem same_object o (slice (i + 1) later (named ts ns))
-  row_on later o h e = row_pass same_object (named ts ns) later i o no_object h there (rw (get_d_named ts ns i t n) e)
+pub loop-later-init : goal.loop-later-init
+loop-later-init c = fresh_start same_object _ c.args.from c.requires.2.0 c.requires.2.1
 
-  row_found : (later : ℕ) (o : Object) → i < later → same_object o at ≡ true
-      → elem same_object o (slice i later (named ts ns)) ≡ true
-  row_found later o h e = row_hit same_object (named ts ns) later i o no_object h there (rw (get_d_named ts ns i t n) e)
+pub slice_bounds-row_start-end : goal.slice_bounds-row_start-end
+slice_bounds-row_start-end c =
+    let ts = c.args.targets.now in
+    let ns = c.args.numbers.now in
+    let k : length c.args.keys.now ≡ length ts = rw c.requires.1 (length-map (named ts ns) key_of ∙ named_length ts ns c.requires.0) in
+    sym (length-take-le _ c.args.keys.now (omega arith))
 
-  module _ (n' : ℕ) (h : i < n') where
-    abbrev left : ℕ → ℕ
-    left k = k + first_failed (along (unseen same_object) seen_with (take k (named ts ns)) (slice k n' (named ts ns)))
-
-    scan_on : elem same_object at (take i (named ts ns)) ≡ false → left i ≡ left (i + 1)
-    scan_on e = scan_pass same_object (named ts ns) n' i no_object h there (rw (get_d_named ts ns i t n) e)
-
-    scan_found : elem same_object at (take i (named ts ns)) ≡ true → left i ≡ i
-    scan_found e = scan_hit same_object (named ts ns) n' i no_object h there (rw (get_d_named ts ns i t n) e)
-
-pub scan-init : goal.scan-init
-scan-init c =
-    let s = c in
-    let a = s.args in (
-      search rules,
-      scan_start same_object (named a.targets.now a.numbers.now) a.n a.from s.requires.2
-          (length_named a.targets.now a.numbers.now a.n s.requires.0 s.requires.1) s.requires.3,
-    )
+pub bounds-keys-later : goal.bounds-keys-later
+bounds-keys-later c =
+    let ts = c.args.targets.now in
+    let ns = c.args.numbers.now in
+    let k : length c.args.keys.now ≡ length ts = rw c.requires.1 (length-map (named ts ns) key_of ∙ named_length ts ns c.requires.0) in
+    omega arith
 
 pub loop-earlier-init : goal.loop-earlier-init
 loop-earlier-init c =
-    let q = c in
-    let s = q in
-    let a = s.args in
-    let ts = a.targets.now in
-    let ns = a.numbers.now in
-    let later = q.scan.later in
-    row_known (named ts ns) a.keys.now a.n later c.scan-test.true
-    (length_named ts ns a.n s.requires.0 s.requires.1) s.requires.5 _ (get_d_named ts ns later (omega arith) (omega arith))
-    c.row_start-earlier.result c.row_start-earlier.ensures
+    let ts = c.args.targets.now in
+    let ns = c.args.numbers.now in
+    let j = c.loop-later.later in
+    let n : length (named ts ns) ≡ length ts = named_length ts ns c.requires.0 in
+    (row_known (named ts ns) c.args.keys.now j (omega arith) c.requires.1 _ (get_d_named ts ns j (omega arith) (omega arith)) _ c.row_start-earlier.ensures).1
 
 pub loop-earlier-preserved : goal.loop-earlier-preserved
 loop-earlier-preserved c =
-    let turn = c in
-    let p = turn in
-    let q = p in
-    let a = q.args in (
-      omega arith,
-      p.loop-earlier.invariant.1
-          ∙ row_on a.targets.now a.numbers.now p.loop-earlier.earlier (omega arith) (omega arith) q.scan.later _
-          turn.loop-earlier-test.true (sym c.same_object.ensures ∙ c.if-same_object.false),
-    )
+    let ts = c.args.targets.now in
+    let ns = c.args.numbers.now in
+    let i = c.loop-earlier.earlier in
+    let j = c.loop-later.later in
+    let n : length (named ts ns) ≡ length ts = named_length ts ns c.requires.0 in
+    let other : same_object (object_of (get_or ts j 0) (get_or ns j 0)) (object_of (get_or ts i 0) (get_or ns i 0)) ≡ false =
+    elim c.else-targets-later.branch [
+      | else-targets-later-via-then-targets-later+else-numbers-later w ↦ same_not _ _ (λ h. w.if-numbers-later.false h.1)
+      | else-targets-later-via-else-targets-later w ↦ same_not _ _ (λ h. w.if-targets-later.false h.0)
+    ] in
+    c.loop-earlier.invariant
+    ∙ row_pass same_object (named ts ns) j i _ no_object c.loop-earlier-test.true (omega arith) (rw (get_d_named ts ns i (omega arith) (omega arith)) other)
 
-pub scan-preserved : goal.scan-preserved
-scan-preserved c =
-    let p = c in
-    let turn = p in
-    let q = turn in
-    let a = q.args in
-    let ts = a.targets.now in
-    let ns = a.numbers.now in
-    let later = q.scan.later in (
-      omega arith,
-      q.scan.invariant.1
-          ∙ scan_on ts ns later (omega arith) (omega arith) a.n turn.scan-test.true
-          (p.loop-earlier.invariant.1 ∙ row_done same_object (named ts ns) later p.loop-earlier.earlier _ c.loop-earlier-test.false),
-    )
+pub loop-later-preserved : goal.loop-later-preserved
+loop-later-preserved c =
+    let ts = c.args.targets.now in
+    let ns = c.args.numbers.now in
+    let j = c.loop-later.later in
+    let n : length (named ts ns) ≡ length ts = named_length ts ns c.requires.0 in
+    let o = get_d_named ts ns j (omega arith) (omega arith) in
+    fresh_pass same_object (named ts ns) j no_object (omega arith) c.loop-later.invariant
+    (rw o (c.loop-earlier.invariant ∙ row_done same_object (named ts ns) j c.loop-earlier.earlier _ (omega arith)))
 
-pub returns-after-scan : goal.returns-after-scan
-returns-after-scan c =
-    let q = c in
-    let a = q.args in
-    sym (q.scan.invariant.1 ∙ scan_done same_object (named a.targets.now a.numbers.now) a.n q.scan.later c.scan-test.false)
+pub returns-then-numbers-later : goal.returns-then-numbers-later
+returns-then-numbers-later c =
+    let ts = c.args.targets.now in
+    let ns = c.args.numbers.now in
+    let i = c.loop-earlier.earlier in
+    let j = c.loop-later.later in
+    let n : length (named ts ns) ≡ length ts = named_length ts ns c.requires.0 in
+    let same = same_is (object_of (get_or ts j 0) (get_or ns j 0)) (object_of (get_or ts i 0) (get_or ns i 0)) c.if-targets-later.true c.if-numbers-later.true in
+    fresh_fault same_object (named ts ns) j no_object (omega arith) c.loop-later.invariant
+    (rw (get_d_named ts ns j (omega arith) (omega arith))
+    (c.loop-earlier.invariant
+    ∙ row_hit same_object (named ts ns) j i _ no_object c.loop-earlier-test.true (omega arith) (rw (get_d_named ts ns i (omega arith) (omega arith)) same)))
 
-pub returns-then-same_object : goal.returns-then-same_object
-returns-then-same_object c =
-    let row = c in
-    let p = row in
-    let turn = p in
-    let q = turn in
-    let a = q.args in
-    let ts = a.targets.now in
-    let ns = a.numbers.now in
-    let later = q.scan.later in
-    sym (q.scan.invariant.1
-    ∙ scan_found ts ns later (omega arith) (omega arith) a.n turn.scan-test.true
-    (p.loop-earlier.invariant.1
-    ∙ row_found ts ns p.loop-earlier.earlier (omega arith) (omega arith) later _ row.loop-earlier-test.true
-    (sym c.same_object.ensures ∙ c.if-same_object.true)))
+pub returns-after-loop-later : goal.returns-after-loop-later
+returns-after-loop-later c =
+    let ts = c.args.targets.now in
+    let ns = c.args.numbers.now in
+    let n : length (named ts ns) ≡ length ts = named_length ts ns c.requires.0 in
+    fresh_end same_object (named ts ns) c.loop-later.later c.loop-later.invariant (omega arith)

@@ -1,40 +1,47 @@
--- `layout::neighbours::empty_fault` meets its contract: the position is i and the position among the tests from i on; the last
--- component has no follower.
-use Prim.Native.Nat.{◌+◌}
-use mathlib.Core.Path.{sym, ◌∙◌}
-use native.Mathlib.Omega.{arith}
-use Rattle.lists.specs.Slices.{slice_next}
-use Rattle.lists.proofs.Loops.{ahead_start, ahead_pass, ahead_fail}
-use Rattle.layout.specs.Records.{no_neighbour}
-use Rattle.layout.specs.Neighbours.{empty_ok}
-use Rattle.layout.proofs.Ends.{empty_end}
+-- `layout::neighbours::empty_fault` meets its contract: the position is found among the pairs of a component and its follower.
+use Rattle.std.specs.Prelude.{ℕ, ◌-◌, ◌≡◌, Option, List, Bool, not, length, drop}
+use Rattle.std.specs.List.{zip}
+use Rattle.std.proofs.Common.{◌∙◌, sym, refl, length-drop}
 use borrow.Author.Rules.{rules}
+use borrow.Author.Tests.{tests}
+use Rattle.std.proofs.lemmas.Iterator.{YieldsList-from_slice, YieldsList-from_zip}
+use Rattle.std.proofs.lemmas.Iterator.Adapters.{YieldsList-from_skip}
+use Rattle.lists.specs.Tests.{first_failed, first_that, found, length_ahead, drop_ahead}
+use Rattle.lists.specs.Slices.{part_rest}
+use Rattle.lists.proofs.Iterators.{found-position}
+use Rattle.lists.proofs.Found.{found_pair, rest_some, rest_none}
+use Rattle.layout.specs.declared.Neighbour.{Neighbour}
+use Rattle.layout.specs.Neighbours.{empty_before, empty_ok, empty_tests}
 use Rattle.layout.proofs.neighbours.empty_fault.Goals as goal
 
-pub loop-i-init : goal.loop-i-init
-loop-i-init c =
-    let a = c.args in
-    (search rules, ahead_start a.list a.n a.from empty_ok c.requires.0 (omega arith) c.requires.2)
+-- The test of a component and its follower.
+abbrev joined : Neighbour → Neighbour → Bool
+joined a b = empty_before a.init a.begin a.end b.extension
 
-pub returns-then-not-empty_ok : goal.returns-then-not-empty_ok
-returns-then-not-empty_ok c =
-    let p = c in
-    let a = p.args in
-    sym (p.loop-i.invariant.1 ∙ ahead_fail a.list a.n p.loop-i.i empty_ok no_neighbour (omega arith) (omega arith)
-    (rw (slice_next a.list a.n (p.loop-i.i + 1) no_neighbour c.loop-i-test.true (omega arith))
-    (sym c.empty_ok.ensures ∙ c.if-not-empty_ok.true)))
+-- What is found among the pairs of the rest is what the tests of the rest give.
+pairs_tests : (l : List Neighbour) (k : ℕ) (r : Option ℕ)
+    → r ≡ found (first_that (λ (p : Neighbour × Neighbour). not (joined p.0 p.1)) (zip (drop k l) (drop 1 (drop k l)))) (length (zip (drop k l) (drop 1 (drop k l))))
+    → r ≡ found (first_failed (drop k (empty_tests l))) (length l - k)
+pairs_tests l k r e = rw (drop_ahead, ← length-drop k l) (e ∙ found_pair empty_ok joined (λ a. refl) (λ a b m. refl) (drop k l))
 
-pub loop-i-preserved : goal.loop-i-preserved
-loop-i-preserved c =
-    let p = c in
-    let a = p.args in (
-      omega arith,
-      p.loop-i.invariant.1 ∙ ahead_pass a.list a.n p.loop-i.i empty_ok no_neighbour (omega arith) (omega arith)
-          (rw (slice_next a.list a.n (p.loop-i.i + 1) no_neighbour c.loop-i-test.true (omega arith))
-          (sym c.empty_ok.ensures ∙ c.if-not-empty_ok.false)),
-    )
+pub returns-in_err-i : goal.returns-in_err-i
+returns-in_err-i c =
+    let l = c.args.list.now in
+    let k = c.args.from in
+    let r = drop k l in
+    let d : c.iter.result.rest.now ≡ r = c.iter.ensures.rest ∙ part_rest l k in
+    let e : c.iter-2.result.rest.now ≡ r = c.iter-2.ensures.rest ∙ part_rest l k in
+    let pairs = YieldsList-from_zip {s = c.zip.result} (YieldsList-from_slice {s = c.zip.result.a} r (cc)) (YieldsList-from_skip {s = c.zip.result.b} 1 (YieldsList-from_slice {s = c.zip.result.b.iter} r (cc)) (cc)) in
+    let p = found-position (λ p. not (joined p.0 p.1)) c.position.new.self _ _ c.position.ensures.ran pairs (λ x b q k. search (rules, tests)) in
+    c.from_residual.ensures ∙ rest_none (empty_tests l) k (length l) c.requires.0 (length_ahead _ l) c.requires.1 (pairs_tests l k _ (sym c.in_err-i.was ∙ p))
 
 pub returns : goal.returns
 returns c =
-    let a = c.args in
-    sym (c.loop-i.invariant.1 ∙ empty_end a.list a.n c.loop-i.i no_neighbour (omega arith) (omega arith) (omega arith))
+    let l = c.args.list.now in
+    let k = c.args.from in
+    let r = drop k l in
+    let d : c.iter.result.rest.now ≡ r = c.iter.ensures.rest ∙ part_rest l k in
+    let e : c.iter-2.result.rest.now ≡ r = c.iter-2.ensures.rest ∙ part_rest l k in
+    let pairs = YieldsList-from_zip {s = c.zip.result} (YieldsList-from_slice {s = c.zip.result.a} r (cc)) (YieldsList-from_skip {s = c.zip.result.b} 1 (YieldsList-from_slice {s = c.zip.result.b.iter} r (cc)) (cc)) in
+    let p = found-position (λ p. not (joined p.0 p.1)) c.position.new.self _ _ c.position.ensures.ran pairs (λ x b q k. search (rules, tests)) in
+    rest_some (empty_tests l) k (length l) c.requires.0 (length_ahead _ l) c.requires.1 _ (pairs_tests l k _ (sym c.in_ok-i.was ∙ p))

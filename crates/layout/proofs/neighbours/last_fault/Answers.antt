@@ -1,27 +1,29 @@
--- `layout::neighbours::last_fault` meets its contract: of these tests only the last can fail.
-use mathlib.Core.Path.{sym, ◌∙◌}
-use native.Mathlib.Omega.{arith}
-use borrow.Author.Tests.{eq-eqb, ne_eqb}
-use Rattle.layout.specs.Records.{no_neighbour}
-use Rattle.layout.proofs.Ends.{last_test}
+-- `layout::neighbours::last_fault` meets its contract: of the tests of the list, only the last can fail.
+use Rattle.std.specs.Prelude.{◌≡◌, Some, None, true, false, not, ◌||◌, slice_get, length, ◌-◌}
+use Rattle.std.proofs.Common.{◌∙◌}
+use Rattle.layout.specs.Neighbours.{is_empty}
+use Rattle.layout.proofs.Ends.{last_none, last_some}
 use Rattle.layout.proofs.neighbours.last_fault.Goals as goal
+use Rattle.layout.proofs.neighbours.last_fault.Goals.{then-more-via-then-more, then-more-via-else-more+then-not-is_empty}
 
-pub returns-then-n-eq0 : goal.returns-then-n-eq0
-returns-then-n-eq0 c = rw c.if-n-eq0.true
+pub returns-in_err-last : goal.returns-in_err-last
+returns-in_err-last c =
+    let l = c.args.list.now in
+    let h : None ≡ slice_get l (length l - 1) = rw c.in_err-last.was at c.last.ensures.value in
+    c.from_residual.ensures ∙ last_none c.args.more l h
 
 pub returns-then-more : goal.returns-then-more
 returns-then-more c =
-    let a = c.args in
-    sym (last_test a.more a.list a.n no_neighbour (omega arith) (omega arith) ∙ rw c.if-more.true)
-
-pub returns-then-c : goal.returns-then-c
-returns-then-c c =
-    let a = c.args in
-    sym (last_test a.more a.list a.n no_neighbour (omega arith) (omega arith)
-    ∙ rw (c.if-more.false, eq-eqb _ _ c.if-c.true))
+    let l = c.args.list.now in
+    let x = c.in_ok-last.last.now in
+    let h : Some x ≡ slice_get l (length l - 1) = rw c.in_ok-last.was at c.last.ensures.value in
+    let t : (c.args.more || not (is_empty x.begin x.end)) ≡ true = elim c.then-more.branch [ then-more-via-then-more w ↦ rw w.if-more.true | then-more-via-else-more+then-not-is_empty w ↦ rw (w.if-more.false, ← w.is_empty.ensures, w.if-not-is_empty.true) ] in
+    rw t at (last_some c.args.more x l h)
 
 pub returns : goal.returns
 returns c =
-    let a = c.args in
-    sym (last_test a.more a.list a.n no_neighbour (omega arith) (omega arith)
-    ∙ rw (c.if-more.false, ne_eqb _ _ c.if-c.false))
+    let l = c.args.list.now in
+    let x = c.in_ok-last.last.now in
+    let h : Some x ≡ slice_get l (length l - 1) = rw c.in_ok-last.was at c.last.ensures.value in
+    let t : (c.args.more || not (is_empty x.begin x.end)) ≡ false = rw (c.if-more.false, ← c.is_empty.ensures, c.if-not-is_empty.false) in
+    rw t at (last_some c.args.more x l h)

@@ -1,4 +1,0 @@
-pub mod Striped
-pub mod Found
-pub mod Turns
-pub mod Owned

@@ -1,5 +1,2 @@
-pub mod Spans
 pub mod PlacedLaws
 pub mod FieldLaws
-pub mod ValidLaws
-pub mod SpanLaws

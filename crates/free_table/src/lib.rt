@@ -86,13 +86,13 @@ impl Choice {
         requires { s ≤ 16 }
         ensures { result ≡ choice_after self s may r }
     {
-        if !(self.count < s && may) {
-            return self;
+        if self.count < s && may {
+            let mut more = self;
+            more.objects[self.count] = r.next_object();
+            more.count += 1;
+            return more;
         }
-        let mut more = self;
-        more.objects[self.count] = r.next_object();
-        more.count += 1;
-        more
+        self
     }
 }
 

@@ -3,12 +3,16 @@ use Rattle.std.proofs.Common.{inl, inr, arith, lt-ltb, le-ltb}
 use Rattle.free_table.specs.Scanning.{choice_after}
 use Rattle.free_table.proofs.Choice.after.Goals as goal
 
-pub returns-then-not-may : goal.returns-then-not-may
+pub returns-then-may : goal.returns-then-may
 unfolding choice_after
-returns-then-not-may c =
-    let a = c.args in
-    elim c.if-not-may.either [ inl p ↦ rw (lt-ltb a.self.count a.s (omega arith), p.1) | inr h ↦ rw (le-ltb a.self.count a.s (omega arith)) ]
+returns-then-may c =
+    let a = c.args in rw (lt-ltb a.self.count a.s (omega arith), c.if-may.true, c.next_object.ensures)
 
 pub returns : goal.returns
 unfolding choice_after
-returns c = let a = c.args in rw (lt-ltb a.self.count a.s (omega arith), c.if-not-may.false.1, c.next_object.ensures)
+returns c =
+    let a = c.args in
+    elim c.else-self-s.either [
+      | inl p ↦ rw (lt-ltb a.self.count a.s (omega arith), p.1)
+      | inr h ↦ rw (le-ltb a.self.count a.s (omega arith))
+    ]

@@ -19,14 +19,7 @@ pub fn objects_form(s: &[u8], at: usize, n: usize) -> bool
     requires { at + 16 * n ≤ length s.now }
     ensures { result ≡ objects_form n s.now at }
 {
-    let mut i: usize = 0;
-    while i < n {
-        if !object_form(s, at + 16 * i) {
-            return false;
-        }
-        i += 1;
-    }
-    true
+    (0..n).all(|i| object_form(s, at + 16 * i))
 }
 
 // Has the component at the place its mark, and no flag but init and extension?
@@ -63,11 +56,10 @@ pub fn head_form(s: &[u8]) -> bool
 }
 
 // Stores a place at position i, if there is one.
-fn note(places: &mut [usize; 16], i: usize, place: usize)
-    requires { length places.old ≡ 16 }
+fn note(places: &mut [usize], i: usize, place: usize)
     ensures { places.new ≡ set places.old i place }
 {
-    if i < 16 {
+    if i < places.len() {
         places[i] = place;
     }
 }

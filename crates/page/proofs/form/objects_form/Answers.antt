@@ -1,32 +1,19 @@
--- `page::form::objects_form` meets its contract: all records have their form exactly if those that are left have it.
-use mathlib.Core.Path.{sym, ◌∙◌}
-use native.Mathlib.Omega.{arith}
-use native.Mathlib.Nat.{add-zero, sub-zero}
-use Rattle.page.proofs.Turns.{objects_form_turn, objects_form_done}
+-- `page::form::objects_form` meets its contract: the closure asks the record at each place.
 use borrow.Author.Rules.{rules}
+use borrow.Author.Tests.{tests}
+use mathlib.Core.Path.{◌∙◌, refl}
+use Prim.Native.Nat.{◌+◌, ◌*◌}
+use native.Mathlib.Omega.{arith}
+use Rattle.std.proofs.lemmas.Iterator.{YieldsList-from_range}
+use Rattle.lists.proofs.Iterators.{every-all}
+use Rattle.page.specs.Form.{object_form}
+use Rattle.page.proofs.Turns.{objects_form_every}
 use Rattle.page.proofs.form.objects_form.Goals as goal
-
-pub returns-then-not-object_form : goal.returns-then-not-object_form
-returns-then-not-object_form c =
-    let p = c in
-    let a = p.args in
-    let e = sym c.object_form.ensures ∙ c.if-not-object_form.true in
-    let t = objects_form_turn a.s.now a.at a.n p.loop-i.i c.loop-i-test.true in
-    sym (p.loop-i.invariant.1 ∙ t ∙ rw e)
-
-pub loop-i-preserved : goal.loop-i-preserved
-loop-i-preserved c =
-    let p = c in
-    let a = p.args in
-    let e = sym c.object_form.ensures ∙ c.if-not-object_form.false in
-    let t = objects_form_turn a.s.now a.at a.n p.loop-i.i c.loop-i-test.true in
-    (omega arith, p.loop-i.invariant.1 ∙ t ∙ rw e)
 
 pub returns : goal.returns
 returns c =
-    let p = c in
-    let a = p.args in
-    sym (p.loop-i.invariant.1 ∙ objects_form_done a.s.now a.at a.n p.loop-i.i c.loop-i-test.false)
-
-pub loop-i-init : goal.loop-i-init
-loop-i-init c = (search rules, rw (sub-zero, add-zero))
+    let s = c.args.s.now in
+    let at = c.args.at in
+    every-all (λ i. object_form s (at + 16 * i)) _ _ _ c.all.ensures.ran (YieldsList-from_range 0 c.args.n c.args.n refl (omega arith))
+    (λ x b q k. search (rules, tests))
+    ∙ objects_form_every s at c.args.n

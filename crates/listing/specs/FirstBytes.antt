@@ -7,10 +7,9 @@ use Rattle.lists.specs.Bools.{bool_cases}
 use Rattle.bytes_le.specs.Numbers.{u16_at}
 use Rattle.bytes_le.specs.NumberLaws.{u16_take}
 use Rattle.collector.specs.declared.Collector.{Collector}
-use Rattle.collector.specs.declared.Reading.{Reading}
 use Rattle.collector.specs.Collector.{new_collector}
 use Rattle.collector.specs.Taking.{number_of, page_in}
-use Rattle.collector.specs.Runs.{next, refused_at, closed, following, read_on, read_run, listed_cut}
+use Rattle.collector.specs.Runs.{Reading, next, refused_at, closed, following, read_on, read_run, listed_cut}
 use Rattle.collector.proofs.CutLaws.{listed_long, listed_next}
 use Rattle.listing.specs.Listing.{reading_text, listing_of}
 

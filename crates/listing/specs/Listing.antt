@@ -4,8 +4,7 @@ use Rattle.std.specs.Prelude.{ℕ, zero, suc, ◌+◌, ◌/◌, ◌%◌, List, [
 use Rattle.layout.specs.declared.Component.{Component}
 use Rattle.layout.specs.declared.Layout.{Layout}
 use Rattle.layout.specs.Records.{view}
-use Rattle.collector.specs.declared.Reading.{Reading}
-use Rattle.collector.specs.Runs.{read_run, listed_cut}
+use Rattle.collector.specs.Runs.{Reading, read_run, listed_cut}
 use Rattle.listing.specs.Texts.{ascii}
 
 -- The last decimal digit of a number; 48 is `0`.

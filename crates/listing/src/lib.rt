@@ -14,12 +14,10 @@ mod text;
 fn listing_of(input: &[u8]) -> Text
     ensures { result.bytes ≡ listing_of input.now }
 {
-    let reading = collector::run::read_listed(input);
     let mut text = Text::new();
-    if reading.refusal != 0 {
-        lines::push_refused(&mut text, reading.refusal, reading.page);
-    } else {
-        lines::push_layout(&mut text, &reading.layout);
+    match collector::run::read_listed(input) {
+        Ok(reading) => lines::push_layout(&mut text, &reading.layout),
+        Err(refused) => lines::push_refused(&mut text, refused.refusal, refused.page),
     }
     text
 }

@@ -1,10 +1,12 @@
 // The lines of the listing, each put at the end of the text.
 ghost use Rattle.std.specs.Prelude.{◌≡◌, ◌++◌, ◌+◌, ◌*◌, ◌≤◌, length};
+ghost use Rattle.refusals.specs.Refusals.{number_of};
 ghost use Rattle.listing.specs.Listing.{size_in, head_line, component_line, layout_text, refused_line};
 
 use crate::text;
 use crate::text::Text;
 use layout::{Component, Layout};
+use refusals::Refusal;
 
 // Appends the first line of a layout's listing.
 fn push_head(text: &mut Text, generation: u32, count: usize)
@@ -18,12 +20,12 @@ fn push_head(text: &mut Text, generation: u32, count: usize)
 }
 
 // Appends the line of a refusal.
-pub(crate) fn push_refused(text: &mut Text, number: u8, page: usize)
+pub(crate) fn push_refused(text: &mut Text, refusal: Refusal, page: usize)
     requires { length text.old.bytes + 144 ≤ 2448 }
-    ensures { text.new.bytes ≡ text.old.bytes ++ refused_line number page }
+    ensures { text.new.bytes ≡ text.old.bytes ++ refused_line (number_of refusal) page }
 {
     text.push_str("refused ");
-    text::push_number(text, u64::from(number), " page ");
+    text::push_number(text, u64::from(refusal.number()), " page ");
     text::push_number(text, page as u64, "\n");
 }
 

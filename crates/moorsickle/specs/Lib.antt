@@ -1,2 +1,1 @@
-pub mod LentTable
-pub mod RaisedTable
+pub mod Answers

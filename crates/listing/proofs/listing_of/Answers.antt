@@ -1,10 +1,10 @@
 -- `listing::listing_of` meets its contract: the text is that of the reading, and a reading that is not refused gives a
 -- valid layout.
-use Rattle.std.proofs.Common.{ℕ, ◌≤◌, ◌≡◌, ap, sym, ◌∙◌, List, true, eq-eqb, ne_eqb, length}
+use Rattle.std.proofs.Common.{ℕ, ◌≤◌, ◌≡◌, refl, ap, sym, ◌∙◌, List, true, arith, ne_eqb, length}
+use Rattle.refusals.specs.Refusals.{number_of, number_pos}
 use Rattle.layout.specs.Rules.{valid}
 use Rattle.layout.specs.FactLaws.{valid_facts}
-use Rattle.collector.specs.declared.Reading.{Reading}
-use Rattle.collector.specs.Runs.{read_run, listed_cut}
+use Rattle.collector.specs.Runs.{Reading, read_run, listed_cut}
 use Rattle.collector.proofs.ValidRuns.{run_valid}
 use Rattle.listing.specs.Listing.{listing_of}
 use Rattle.listing.proofs.listing_of.Goals as goal
@@ -17,18 +17,15 @@ few r s e z =
     (valid_facts r.layout v).few
 
 pub push_layout-requires : goal.push_layout-requires
-push_layout-requires c =
-    let r = c.read_listed-reading in
-    (few r.result c.args.input.now r.ensures c.if-reading-ne0.false, ap length c.new-text.ensures)
+push_layout-requires c = (few _ c.args.input.now c.in-Ok.ensures refl, ap length c.new-text.ensures)
 
-pub returns-then-reading-ne0 : goal.returns-then-reading-ne0
+pub returns-in-Ok : goal.returns-in-Ok
 unfolding listing_of
-returns-then-reading-ne0 c =
-    let r = c.read_listed-reading in
-    rw (← r.ensures, ne_eqb r.result.refusal 0 c.if-reading-ne0.true) (rw c.new-text.ensures at c.push_refused.ensures)
+returns-in-Ok c = rw (← c.in-Ok.ensures) (rw c.new-text.ensures at c.push_layout.ensures)
 
-pub returns-else-reading-ne0 : goal.returns-else-reading-ne0
+pub returns-in-Err : goal.returns-in-Err
 unfolding listing_of
-returns-else-reading-ne0 c =
-    let r = c.read_listed-reading in
-    rw (← r.ensures, eq-eqb r.result.refusal 0 c.if-reading-ne0.false) (rw c.new-text.ensures at c.push_layout.ensures)
+returns-in-Err c =
+    let n = number_of c.in-Err.refused.refusal in
+    rw (← c.in-Err.ensures, ne_eqb n 0 (λ z. omega (arith, number_pos c.in-Err.refused.refusal)))
+    (rw c.new-text.ensures at c.push_refused.ensures)

@@ -1,24 +1,15 @@
--- `moorsickle::grow` meets its contract: growth of the table that was loaded, with its next numbers written back, is growth
--- of all the lent records.
-use Rattle.std.proofs.Common.{◌∙◌, arith}
-use Rattle.moorsickle.specs.LentTable.{loaded_of}
-use Rattle.moorsickle.proofs.LentTableLaws.{grown_count, grown_says}
-use Rattle.growth_rules.specs.Growing.{grow_of}
-use Rattle.growth.specs.Answers.{GrownSays, call_of}
+-- `moorsickle::grow` meets its contract: the layout and the table afterwards are those of growth, or stay if it refuses.
+use Rattle.std.proofs.lemmas.Result.{err_from_is_err_and}
+use Rattle.growth.specs.Answers as growth
 use Rattle.moorsickle.proofs.grow.Goals as goal
 
-pub write_back-requires : goal.write_back-requires
-write_back-requires c =
-    let a = c.args in
-    let given : GrownSays (loaded_of a.table.now) c.grow-g.result (grow_of a.l (call_of a.offset a.mark (loaded_of a.table.now))) =
-    rw (← c.load.ensures) c.grow-g.ensures in
-    let n = grown_count a.l a.offset a.mark a.table.now c.grow-g.result given in
-    (omega arith, omega arith)
+pub returns-in_err-grown : goal.returns-in_err-grown
+unfolding growth.grow_says
+returns-in_err-grown c =
+    let p = err_from_is_err_and c.from_residual.result c.from_residual.ensures.1 in
+    let given = c.in_err-grown.ensures in
+    rw (p.1, p.2) (given.answer, given.layout, given.table)
 
 pub returns : goal.returns
-returns c =
-    let a = c.args in
-    let given : GrownSays (loaded_of a.table.now) c.grow-g.result (grow_of a.l (call_of a.offset a.mark (loaded_of a.table.now))) =
-    rw (← c.load.ensures) c.grow-g.ensures in
-    let s = grown_says a.l a.offset a.mark a.table.now c.grow-g.result given in
-    (s.0, s.1, c.write_back.ensures ∙ s.2)
+unfolding growth.grow_says
+returns c = let given = c.in_ok-grown.ensures in (given.answer, given.layout, given.table)

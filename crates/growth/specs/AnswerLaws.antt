@@ -1,9 +1,8 @@
 -- Laws of what a call gives: of a home that a lookup finds.
-use Rattle.std.specs.Prelude.{ℕ, ◌≡◌, refl, List, ◌++◌, Bool, true, false, length, take, drop}
+use Rattle.std.specs.Prelude.{ℕ, ◌≡◌, refl, List, Bool, true, false}
 use Rattle.std.proofs.Math.Path.{sym}
-use Rattle.std.proofs.Common.{ap, ◌∙◌, arith, zero-add, length-take, take-append-drop}
+use Rattle.std.proofs.Common.{◌∙◌}
 use Rattle.std.proofs.Math.Option.{Option, none, some}
-use Rattle.std.proofs.lemmas.List.Edits.{sets, sets-eq}
 use Rattle.layout.specs.declared.Component.{Component}
 use Rattle.layout.specs.Facts.{Keeps}
 use Rattle.mapping.specs.Answers.{gives, refuses}

@@ -12,7 +12,7 @@ use Rattle.layout.specs.Rules.{valid}
 use Rattle.layout.specs.Holder.{last_end}
 use Rattle.free_table.specs.Table.{usable, table_ok}
 use Rattle.free_table.specs.Choosing.{raised_first}
-use Rattle.growth_rules.specs.Steps.{Call, Step, stays, lacks, changes}
+use Rattle.growth_rules.specs.Steps.{Call, changes}
 use Rattle.growth_rules.specs.Growing.{Outcome, meets, step_of, refusing, accepting, outcome_of, grow_in, grow_of}
 use Rattle.growth.specs.Plans.{change_refusal}
 

@@ -20,7 +20,7 @@ use Rattle.growth_rules.specs.Parts.{granting as granted}
 use Rattle.growth_rules.specs.Steps.{Call, Step, lacks, changes, choosing, held_step, spill_step, low_step, extension_step}
 use Rattle.growth_rules.specs.StepLaws.{step_after_all, after_changes, after_stays, after_lacks}
 use Rattle.growth.specs.declared.Change.{Change}
-use Rattle.growth.specs.Plans.{with_left, replacement, planned, Plan, change_plan, plan_of, plan_says, replacing, granting, on_objects, IsWithin, PlanWithin}
+use Rattle.growth.specs.Plans.{with_left, replacement, planned, Plan, change_plan, plan_of, plan_says, replacing, granting, on_objects, PlanWithin}
 use Rattle.growth.specs.Plans.{choosing_plan, held_plan, follow_plan, spill_plan, repeat_plan, low_plan, extension_plan}
 
 -- Of the components cs after others, a plan says the step s after those others, and its own are among them all.

@@ -46,5 +46,5 @@ pub fn changed(l: Layout, p: Change) -> Layout
     ensures { result ≡ packed (l.generation + 1) (planned p (view l)) }
 {
     let next = spliced(l, p);
-    layout::pack(l.generation + 1, planned_count(l.count, p), next)
+    layout::pack(l.generation + 1, &next[..planned_count(l.count, p)])
 }

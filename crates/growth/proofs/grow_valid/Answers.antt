@@ -1,5 +1,5 @@
 -- `growth::grow_valid` meets its contract: 10 and 15 are asked in their order, and then the step is made.
-use Rattle.std.specs.Prelude.{ℕ, ◌≤◌, ◌<◌, ◌≡◌, List, None, Some, Err, true, false, refl, leb, length}
+use Rattle.std.specs.Prelude.{ℕ, ◌≡◌, List, None, Some, Err, true, false, refl, leb, length}
 use Rattle.std.proofs.Common.{ap, sym, ◌∙◌, subst, arith}
 use Rattle.std.proofs.lemmas.Bool.{le-leb, lt-leb}
 use borrow.Author.Rules.{rules}
@@ -13,7 +13,7 @@ use Rattle.layout.specs.Facts.{Valid}
 use Rattle.layout.specs.FactLaws.{valid_facts}
 use Rattle.free_table.specs.declared.TargetRecord.{TargetRecord}
 use Rattle.mapping.proofs.Firsts.{found_some, found_none}
-use Rattle.growth_rules.specs.Growing.{Outcome, step_of, outcome_of}
+use Rattle.growth_rules.specs.Growing.{Outcome, outcome_of}
 use Rattle.growth_rules.specs.StepLaws.{past_holder}
 use Rattle.growth.specs.Answers.{call_of, grow_says, GrownSays}
 use Rattle.growth.specs.Plans.{plan_says, plan_at, PlanFor}

@@ -1,5 +1,5 @@
 -- `growth::changing::changed` meets its contract: the components by the change are in the first places of the array.
-use Rattle.std.specs.Prelude.{◌+◌, ◌≡◌, List, length}
+use Rattle.std.specs.Prelude.{◌+◌, List}
 use Rattle.std.proofs.Common.{ap, ◌∙◌, arith}
 use Rattle.layout.specs.declared.Component.{Component}
 use Rattle.layout.specs.Records.{packed}

@@ -1,6 +1,6 @@
 -- `growth::changing::spliced` meets its contract: one component is stored or two, and those that follow after them.
 use Rattle.std.specs.Prelude.{ℕ, ◌+◌, ◌-◌, ◌≤◌, ◌≡◌, List, length, take, drop, set}
-use Rattle.std.proofs.Common.{ap, sym, ◌∙◌, arith, add-one, append_assoc, length-take-le, length-drop, drop-drop}
+use Rattle.std.proofs.Common.{ap, ◌∙◌, arith, add-one, append_assoc, length-take-le, length-drop, drop-drop}
 use Rattle.std.proofs.lemmas.List.{take_rest, length-set}
 use Rattle.std.proofs.lemmas.List.Edits.{sets, sets-eq}
 use borrow.Rule.Slice.PartMut.{put_mid}

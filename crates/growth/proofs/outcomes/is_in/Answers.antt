@@ -1,10 +1,8 @@
 -- `growth::outcomes::is_in` meets its contract.
-use Rattle.std.proofs.Common.{◌∙◌}
 use borrow.Author.Rules.{rules}
 use borrow.Author.Tests.{tests}
 use Rattle.std.proofs.lemmas.Iterator.{YieldsList-from_slice}
 use Rattle.lists.proofs.Iterators.{any_of-any}
-use Rattle.layout.specs.Records.{records_of}
 use Rattle.layout.specs.Distinct.{same_object}
 use Rattle.growth.proofs.outcomes.is_in.Goals as goal
 

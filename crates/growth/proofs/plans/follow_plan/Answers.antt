@@ -1,8 +1,7 @@
 -- `growth::plans::follow_plan` meets its contract: an extension follows, or not.
-use Rattle.std.specs.Prelude.{◌≡◌, List, [], ◌∷◌, get_or, drop}
+use Rattle.std.specs.Prelude.{◌≡◌, [], ◌∷◌, get_or, drop}
 use Rattle.std.proofs.Common.{ap, sym, ◌∙◌, arith, drop_of_length-le}
 use Rattle.std.proofs.lemmas.List.{drop_more}
-use Rattle.layout.specs.declared.Component.{Component}
 use Rattle.layout.proofs.Unread.{unread}
 use Rattle.growth.specs.Plans.{follow_plan}
 use Rattle.growth.proofs.plans.follow_plan.Goals as goal

@@ -1,8 +1,7 @@
 -- `growth::plans::low_plan` meets its contract: the extension is the last component, or not.
-use Rattle.std.specs.Prelude.{ℕ, ◌+◌, ◌-◌, ◌<◌, ◌≡◌, List, [], ◌∷◌, length, get_or, drop, take, Ok}
+use Rattle.std.specs.Prelude.{◌+◌, ◌-◌, ◌<◌, ◌≡◌, [], ◌∷◌, length, get_or, drop, Ok}
 use Rattle.std.proofs.Common.{ap, sym, ◌∙◌, arith, length-take, length-drop, drop_of_length-le}
 use Rattle.std.proofs.lemmas.List.{take_rest, drop_more, get_or-drop}
-use Rattle.layout.specs.declared.Component.{Component}
 use Rattle.layout.specs.FactLaws.{kind_few}
 use Rattle.layout.specs.ArrayLaws.{kind_at}
 use Rattle.layout.specs.Records.{ids_of}

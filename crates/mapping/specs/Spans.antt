@@ -15,7 +15,7 @@ span_of c =
       stripe_size = c.stripe_size;
     }
 
--- What is in the unused places of an array of them.
+-- What is said to be past the end of a list of them.
 abbrev pub no_span : Span
 no_span = record { init = false; id = 0; begin = 0; end = 0; stripe_count = 0; stripe_size = 0 }
 

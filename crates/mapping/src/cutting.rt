@@ -1,12 +1,12 @@
 // A request cut into pieces: what can refuse it is asked first, the pieces are written last.
-ghost use Rattle.std.specs.Prelude.{◌≡◌, true, ◌+◌, ◌*◌, ◌^◌, ◌≤◌, min, max, length, List, cond};
+ghost use Rattle.std.specs.Prelude.{◌≡◌, true, ◌+◌, ◌*◌, ◌^◌, ◌≤◌, length, List, cond};
 ghost use Rattle.std.proofs.lemmas.List.Edits.{sets};
 ghost use Rattle.lists.specs.Tests.{any_of};
 ghost use Rattle.layout.specs.Records.{view};
 ghost use Rattle.layout.specs.Rules.{valid};
 ghost use Rattle.layout.specs.Holder.{last_end};
 ghost use Rattle.mapping.specs.Answers.{answer};
-ghost use Rattle.mapping.specs.Cutting.{not_init_asked, part_count, part_pieces};
+ghost use Rattle.mapping.specs.Cutting.{part_begin, part_end, not_init_asked, part_count, part_pieces};
 ghost use Rattle.mapping.specs.Cutting.{piece_count, pieces_of, all_numbers, too_many, room_after};
 ghost use Rattle.mapping.specs.Cutting.{refusal_by, cut_refusal, cut_pieces, cut_in, cut_says};
 ghost use Rattle.mapping.specs.Spans.{spans_of, Cuttable};
@@ -20,39 +20,59 @@ use refusals::Refusal;
 // The most pieces that a request is cut into.
 const MOST_PIECES: u64 = 256;
 
-// Does a byte of the request from `offset` to `stop` lie in the component, and is that not init?
-fn not_init_asked(c: Span, offset: u64, stop: u64) -> bool
-    ensures { result ≡ not_init_asked offset stop c }
-{
-    !c.init && offset.max(c.begin) < stop.min(c.end)
+// A request: the file bytes from `offset` to `stop`, which is not among them.
+#[derive(Clone, Copy)]
+struct Request {
+    offset: u64,
+    stop: u64,
 }
 
-// The number of pieces of the request from `offset` to `stop` in one component, by arithmetic.
-fn part_count(c: Span, offset: u64, stop: u64) -> u64
+impl Request {
+    // The part of the request in the component; there is none if it begins at or after its end.
+    fn part(self, c: Span) -> Request
+        ensures { (result.offset ≡ part_begin self.offset c) × (result.stop ≡ part_end self.stop c) }
+    {
+        Request {
+            offset: self.offset.max(c.begin),
+            stop: self.stop.min(c.end),
+        }
+    }
+}
+
+// Does a byte of the request lie in the component, and is that not init?
+fn not_init_asked(c: Span, request: Request) -> bool
+    ensures { result ≡ not_init_asked request.offset request.stop c }
+{
+    let part = request.part(c);
+    !c.init && part.offset < part.stop
+}
+
+// The number of pieces of the request in one component, by arithmetic.
+fn part_count(c: Span, request: Request) -> u64
     requires { Cuttable c }
-    ensures { (result ≡ part_count offset stop c) × (result ≤ 2 ^ 48) }
+    ensures { (result ≡ part_count request.offset request.stop c) × (result ≤ 2 ^ 48) }
 {
     if !c.init {
         return 0;
     }
-    units::unit_count(c.stripe_size, offset.max(c.begin), stop.min(c.end))
+    let part = request.part(c);
+    units::unit_count(c.stripe_size, part.offset, part.stop)
 }
 
-// The number of pieces of the request from `offset` to `stop` in the components. Refused by 11 if a byte of it lies in
-// one that is not init.
-fn asked<C: Components>(components: &C, offset: u64, stop: u64) -> Result<u64, Refusal>
+// The number of pieces of the request in the components. Refused by 11 if a byte of it lies in one that is not init.
+fn asked<C: Components>(components: &C, request: Request) -> Result<u64, Refusal>
     ensures { cut_says result
         ≡ answer
-        (cond (any_of (not_init_asked offset stop) (spans_of (C.list components.now))) 11 0)
-        (piece_count offset stop (spans_of (C.list components.now))) }
+        (cond (any_of (not_init_asked request.offset request.stop) (spans_of (C.list components.now))) 11 0)
+        (piece_count request.offset request.stop (spans_of (C.list components.now))) }
 {
     let mut pieces: u64 = 0;
     for i in 0..components.count() {
         let span = components.span(i);
-        if not_init_asked(span, offset, stop) {
+        if not_init_asked(span, request) {
             return Err(Refusal::NotInit);
         }
-        pieces += part_count(span, offset, stop);
+        pieces += part_count(span, request);
     }
     Ok(pieces)
 }
@@ -86,39 +106,39 @@ fn count_pieces<C: Components>(
     if 0 < bytes && end < stop {
         return Err(Refusal::PastEnd);
     }
-    let pieces = asked(components, offset, stop)?;
+    let pieces = asked(components, Request { offset, stop })?;
     if too_many(numbers, pieces) {
         return Err(Refusal::Pieces);
     }
     Ok(pieces)
 }
 
-// Writes the pieces of the request from `offset` to `stop` in one component from place `at` on, and gives the place
-// after them.
-fn put_part(room: &mut [u64], at: usize, c: Span, offset: u64, stop: u64) -> usize
-    requires { (Cuttable c) × (at + 5 * part_count offset stop c ≤ length room.old) }
-    ensures { (room.new ≡ sets room.old at (all_numbers (part_pieces offset stop c)))
-        × (result ≡ at + 5 * part_count offset stop c) }
+// Writes the pieces of the request in one component from place `at` on, and gives the place after them.
+fn put_part(room: &mut [u64], at: usize, c: Span, request: Request) -> usize
+    requires { (Cuttable c)
+        × (at + 5 * part_count request.offset request.stop c ≤ length room.old) }
+    ensures { (room.new
+        ≡ sets room.old at (all_numbers (part_pieces request.offset request.stop c)))
+        × (result ≡ at + 5 * part_count request.offset request.stop c) }
 {
     if !c.init {
         return at;
     }
-    let from = offset.max(c.begin);
-    let to = stop.min(c.end);
-    if to <= from {
+    let part = request.part(c);
+    if part.stop <= part.offset {
         return at;
     }
-    units::put_units(room, at, c.id, c.stripe_size, c.stripe_count, from, to)
+    units::put_units(room, at, c, part.offset, part.stop)
 }
 
-// Writes the pieces of the request from `offset` to `stop` in the components into the first of the lent numbers.
-fn put_pieces<C: Components>(room: &mut [u64], components: &C, offset: u64, stop: u64)
-    requires { (5 * piece_count offset stop (spans_of (C.list components.now)) ≤ length room.old) }
-    ensures { room.new ≡ sets room.old 0 (all_numbers (pieces_of offset stop (spans_of (C.list components.now)))) }
+// Writes the pieces of the request in the components into the first of the lent numbers.
+fn put_pieces<C: Components>(room: &mut [u64], components: &C, request: Request)
+    requires { (5 * piece_count request.offset request.stop (spans_of (C.list components.now)) ≤ length room.old) }
+    ensures { room.new ≡ sets room.old 0 (all_numbers (pieces_of request.offset request.stop (spans_of (C.list components.now)))) }
 {
     let mut at: usize = 0;
     for i in 0..components.count() {
-        at = put_part(room, at, components.span(i), offset, stop);
+        at = put_part(room, at, components.span(i), request);
     }
 }
 
@@ -140,7 +160,8 @@ pub fn cut_in<C: Components>(
         ≡ room_after (cut_refusal offset bytes (length lent) cs) (cut_pieces offset bytes cs) lent) }
 {
     let pieces = count_pieces(components, offset, bytes, room.len())?;
-    put_pieces(room, components, offset, offset + bytes);
+    let stop = offset + bytes;
+    put_pieces(room, components, Request { offset, stop });
     Ok(pieces)
 }
 

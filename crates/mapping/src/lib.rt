@@ -19,7 +19,7 @@ pub mod cutting;
 pub mod homes;
 mod listed;
 pub mod objects;
-pub mod units;
+mod units;
 
 // The home of a file byte in an object: the object's target and its number there, and the byte of the object.
 #[derive(Clone, Copy)]
@@ -40,12 +40,12 @@ pub struct Span {
     pub stripe_size: u32,
 }
 
-impl From<Component> for Span {
+impl From<&Component> for Span {
     ghost use Rattle.mapping.specs.Spans.{span_of};
 
-    ghost from_gives = { λ c s. s ≡ span_of c };
+    ghost from_gives = { λ c s. s ≡ span_of c.now };
 
-    fn from(c: Component) -> Span {
+    fn from(c: &Component) -> Span {
         Span {
             init: c.init,
             id: c.id,

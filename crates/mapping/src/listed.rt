@@ -39,7 +39,7 @@ impl<'a> Components for Listed<'a> {
     }
 
     fn span(&self, i: usize) -> Span {
-        Span::from(self.components[i])
+        Span::from(&self.components[i])
     }
 
     fn object(&self, i: usize, stripe: u16) -> Object {

@@ -3,7 +3,7 @@ ghost use Rattle.std.specs.Prelude.{◌≡◌, ◌+◌, ◌*◌, ◌^◌, ◌<�
 ghost use Rattle.std.proofs.lemmas.List.Edits.{sets};
 ghost use Rattle.mapping.specs.Cutting.{unit_count, unit_pieces, piece_numbers, all_numbers};
 
-use crate::Piece;
+use crate::{Piece, Span};
 
 // The number of pieces of the bytes from `from` to `to`, which is not among them, by the stripe size: one for each unit
 // that has a byte among them. Stripe sizes are at least 65,536.
@@ -31,8 +31,8 @@ fn put_piece(room: &mut [u64], at: usize, p: Piece)
     room[at..at + 5].copy_from_slice(&[p.offset, p.length, p.id, p.stripe, p.byte]);
 }
 
-// Writes the pieces of the bytes from `from` to `to`, which is not among them, from place `at` on, and gives the place
-// after them. It divides only to find the first unit. From there it steps from unit to unit: to the next stripe in the
+// Writes the pieces of a component's bytes from `from` to `to`, which is not among them, from place `at` on, and gives
+// the place after them. It divides only to find the first unit. From there it steps from unit to unit: to the next stripe in the
 // same row or, after the last stripe, to stripe 0 in the next row. For the bytes from 2M + 10 to 5M + 7, by 3 stripes
 // of 1M (units are counted from byte 0 of the file, whatever component the bytes are in; a dot is a unit that no byte
 // of these is in):
@@ -45,17 +45,17 @@ fn put_piece(room: &mut [u64], at: usize, p: Piece)
 //      piece 2    file byte 3M, length 1M, stripe 0, object byte 1M
 //      piece 3    file byte 4M, length 1M, stripe 1, object byte 1M
 //      piece 4    file byte 5M, length 7, stripe 2, object byte 1M
-pub fn put_units(room: &mut [u64], at: usize, id: u16, z: u32, s: u16, from: u64, to: u64) -> usize
-    requires { (0 < z)
-        × (0 < s)
+pub fn put_units(room: &mut [u64], at: usize, c: Span, from: u64, to: u64) -> usize
+    requires { (0 < c.stripe_size)
+        × (0 < c.stripe_count)
         × (from < to)
-        × (at + 5 * unit_count z from to ≤ length room.old) }
+        × (at + 5 * unit_count c.stripe_size from to ≤ length room.old) }
     ensures { (room.new
-        ≡ sets room.old at (all_numbers (unit_pieces (unit_count z from to) id z s from to)))
-        × (result ≡ at + 5 * unit_count z from to) }
+        ≡ sets room.old at (all_numbers (unit_pieces (unit_count c.stripe_size from to) c.id c.stripe_size c.stripe_count from to)))
+        × (result ≡ at + 5 * unit_count c.stripe_size from to) }
 {
-    let size = z as u64;
-    let count = s as u64;
+    let size = c.stripe_size as u64;
+    let count = c.stripe_count as u64;
     let unit = from / size;
     let within = from % size;
     // The object byte at which the unit of byte `a` begins.
@@ -69,7 +69,7 @@ pub fn put_units(room: &mut [u64], at: usize, id: u16, z: u32, s: u16, from: u64
         let piece = Piece {
             offset: a,
             length: left,
-            id: id as u64,
+            id: c.id as u64,
             stripe,
             byte,
         };
@@ -87,7 +87,7 @@ pub fn put_units(room: &mut [u64], at: usize, id: u16, z: u32, s: u16, from: u64
     let last = Piece {
         offset: a,
         length: to - a,
-        id: id as u64,
+        id: c.id as u64,
         stripe,
         byte,
     };

@@ -4,4 +4,4 @@ use Rattle.mapping.specs.Spans.{spans_of}
 use Rattle.mapping.proofs.cutting.asked.Given as goal
 
 abbrev pub invariant-loop-i : goal.invariant-loop-i
-invariant-loop-i g l = Counted l.offset l.stop (spans_of (g.C.Components.list l.components)) l.i l.pieces
+invariant-loop-i g l = Counted l.request.offset l.request.stop (spans_of (g.C.Components.list l.components)) l.i l.pieces

@@ -19,9 +19,9 @@ returns-in_err-pieces g c =
     rw r (e, cut_refused (last_end cs) a.offset a.bytes (spans_of cs) a.room.now (number_of c.in_err-pieces.field-0.0) e)
 
 -- Past the count, the request is accepted.
-pub overflow_add-offset : goal.overflow_add-offset
+pub overflow_add-stop : goal.overflow_add-stop
 unfolding cut_says cut_in
-overflow_add-offset g c =
+overflow_add-stop g c =
     let a = c.args in
     let cs = g.C.Components.list a.components.now in
     let done = cut_accepted (last_end cs) a.offset a.bytes (spans_of cs) a.room.now c.in_ok-pieces.pieces c.in_ok-pieces.ensures in

@@ -9,7 +9,7 @@ pub returns-then-not-c : goal.returns-then-not-c
 returns-then-not-c c =
     let a = c.args in
     let off : a.c.init ≡ false = not-true a.c.init c.if-not-c.true in
-    (sym (part_not_init a.offset a.stop a.c off), omega arith)
+    (sym (part_not_init a.request.offset a.request.stop a.c off), omega arith)
 
 pub unit_count-requires : goal.unit_count-requires
 unit_count-requires c = (c.requires (not-false c.args.c.init c.if-not-c.false)).0
@@ -17,5 +17,5 @@ unit_count-requires c = (c.requires (not-false c.args.c.init c.if-not-c.false)).
 pub returns : goal.returns
 returns c =
     let a = c.args in
-    let part = part_init a.offset a.stop a.c (not-false a.c.init c.if-not-c.false) in
-    (rw (← part, ← c.max.ensures, ← c.min.ensures) c.unit_count.ensures.0, c.unit_count.ensures.1)
+    let units = part_init a.request.offset a.request.stop a.c (not-false a.c.init c.if-not-c.false) in
+    (rw (← units, ← c.part-part.ensures.0, ← c.part-part.ensures.1) c.unit_count.ensures.0, c.unit_count.ensures.1)

@@ -7,10 +7,10 @@ use Rattle.mapping.specs.UnitLaws.{unit_count_none}
 use Rattle.mapping.specs.CuttingLaws.{part_init, part_none}
 use Rattle.mapping.proofs.cutting.put_part.Goals as goal
 
-pub returns-then-to-from : goal.returns-then-to-from
-returns-then-to-from c =
+pub returns-then-part : goal.returns-then-part
+returns-then-part c =
     let a = c.args in
-    let part = part_init a.offset a.stop a.c (not-false a.c.init c.if-not-c.false) in
-    let none : part_count a.offset a.stop a.c ≡ 0
-    = rw (← part, ← c.max-from.ensures, ← c.min-to.ensures) (unit_count_none a.c.stripe_size _ _ c.if-to-from.true) in
-    (part_none a.offset a.stop a.c a.room.now a.at none, omega arith)
+    let units = part_init a.request.offset a.request.stop a.c (not-false a.c.init c.if-not-c.false) in
+    let none : part_count a.request.offset a.request.stop a.c ≡ 0
+    = rw (← units, ← c.part-part.ensures.0, ← c.part-part.ensures.1) (unit_count_none a.c.stripe_size _ _ c.if-part.true) in
+    (part_none a.request.offset a.request.stop a.c a.room.now a.at none, omega arith)

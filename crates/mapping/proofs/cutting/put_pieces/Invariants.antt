@@ -4,4 +4,4 @@ use Rattle.mapping.specs.Spans.{spans_of}
 use Rattle.mapping.proofs.cutting.put_pieces.Given as goal
 
 abbrev pub invariant-loop-i : goal.invariant-loop-i
-invariant-loop-i g l = Put l.offset l.stop (spans_of (g.C.Components.list l.components)) l.fn.room l.i l.at l.room
+invariant-loop-i g l = Put l.request.offset l.request.stop (spans_of (g.C.Components.list l.components)) l.fn.room l.i l.at l.room

@@ -145,7 +145,7 @@ fn layout_in(c: &Collector) -> Layout
     requires { c.now.layout.count ≤ 16 }
     ensures { result ≡ packed c.now.layout.generation (gathered c.now) }
 {
-    layout::pack(c.layout.generation, c.layout.count, c.layout.components)
+    layout::pack(c.layout.generation, c.layout.components())
 }
 
 // The layout out of a complete collector. Refused by 1 if the collector breaks the rules, or is not complete.

@@ -3,6 +3,7 @@ ghost use Rattle.std.specs.Prelude.{◌≡◌};
 ghost use Rattle.collector.specs.Runs.{read_run, listed_cut};
 ghost use Rattle.collector.specs.Reads.{next_answer, cut_says, reading_says};
 
+use bytes_le::LittleEndian;
 use layout::Layout;
 use refusals::Refusal;
 
@@ -30,7 +31,7 @@ fn next_page(s: &[u8]) -> Result<(&[u8], &[u8]), Refusal>
     if s.len() < 2 {
         return Err(Refusal::Form);
     }
-    let length = bytes_le::u16_at(s, 0) as usize;
+    let length = u16::read_at(s, 0) as usize;
     let rest = &s[2..];
     if 512 < length || rest.len() < length {
         return Err(Refusal::Form);

@@ -25,7 +25,7 @@ pub returns-then-length-gt512 : goal.returns-then-length-gt512
 returns-then-length-gt512 c =
     let s = c.args.s.now in
     let n : 0 < length s = omega arith in
-    let w = c.u16_at-length.ensures in
+    let w = c.read_at-length.ensures in
     elim c.then-length-gt512.branch [
       | then-length-gt512-via-then-length-gt512 w ↦ rw (listed_long s n (omega arith) (omega arith))
       | then-length-gt512-via-else-length-gt512+then-rest-length w ↦
@@ -36,6 +36,6 @@ pub returns : goal.returns
 returns c =
     let s = c.args.s.now in
     let n : 0 < length s = omega arith in
-    let e = c.u16_at-length.ensures in
+    let e = c.read_at-length.ensures in
     let l = listed_next s n (omega arith) (omega arith) (omega arith) in
     rw (l, c.split_at.ensures.front, c.split_at.ensures.back, take_rest s 2, drop-drop, e)

@@ -1,5 +1,5 @@
 // What a step gives: the refusals that its change draws, or the changed layout, with the table raised.
-ghost use Rattle.std.specs.Prelude.{◌≡◌, true, ◌+◌, ◌≤◌};
+ghost use Rattle.std.specs.Prelude.{◌≡◌, true, ◌≤◌};
 ghost use Rattle.lists.specs.Counting.{elem};
 ghost use Rattle.layout.specs.Records.{records_of, records_in, view};
 ghost use Rattle.layout.specs.Distinct.{same_object};
@@ -9,7 +9,7 @@ ghost use Rattle.mapping.specs.Homes.{has_home};
 ghost use Rattle.free_table.specs.Table.{table_ok};
 ghost use Rattle.growth_rules.specs.Growing.{meets, step_of, outcome_of};
 ghost use Rattle.growth.specs.Answers.{call_of, GrownSays};
-ghost use Rattle.growth.specs.Plans.{planned, planned_objects, change_refusal, made_plan, change_plan, PlanFor};
+ghost use Rattle.growth.specs.Plans.{planned, planned_objects, change_refusal, made_plan, change_plan, IsWithin, PlanFor};
 
 use crate::{Change, Effect, Grown, changing};
 use free_table::TargetRecord;
@@ -67,7 +67,7 @@ const MOST_COMPONENTS: usize = 16;
 
 // Is the change refused, by `GrownOver16`, `ObjectInLayout` or `Generation`?
 fn check(l: &Layout, p: Change) -> Result<(), Refusal>
-    requires { (valid l.now ≡ true) × (p.at + p.old ≤ l.now.count) × (p.chosen ≤ 16) }
+    requires { (valid l.now ≡ true) × IsWithin p l.now.count }
     ensures { number_in result ≡ change_refusal l.now (planned p (view l.now)) (planned_objects p) }
 {
     if MOST_COMPONENTS < changing::planned_count(l.count, p) {

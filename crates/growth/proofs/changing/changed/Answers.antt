@@ -13,4 +13,4 @@ returns c =
     c.pack.ensures
     ∙ ap (λ (cs : List Component). packed (l.generation + 1) cs)
     (rw (c.planned_count.ensures, c.spliced-next.ensures)
-    (spliced_planned c.args.p l.components l.count (omega (arith, r.0)) r.1 (omega (arith, r.2))))
+    (spliced_planned c.args.p l.components l.count (omega (arith, r.0)) r.1.within (omega (arith, r.2))))

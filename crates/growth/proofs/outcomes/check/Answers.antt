@@ -18,7 +18,7 @@ counted l p n v w e =
     e ∙ sym (rw m at (planned_length p (view l) (omega (arith, m))))
 
 pub planned_count-requires : goal.planned_count-requires
-planned_count-requires c = ((valid_facts c.args.l.now c.requires.0).few, c.requires.1)
+planned_count-requires c = ((valid_facts c.args.l.now c.requires.0).few, c.requires.1.within)
 
 pub meets_layout-requires : goal.meets_layout-requires
 meets_layout-requires c = (valid_facts c.args.l.now c.requires.0).few
@@ -28,7 +28,7 @@ unfolding change_refusal
 returns-then-planned_count-gt-MOST_COMPONENTS c =
     let l = c.args.l.now in
     let p = c.args.p in
-    let k = counted l p c.planned_count.result c.requires.0 c.requires.1 c.planned_count.ensures in
+    let k = counted l p c.planned_count.result c.requires.0 c.requires.1.within c.planned_count.ensures in
     sym (rw (lt-ltb 16 (length (planned p (view l))) (omega arith)))
 
 pub returns-then-meets_layout : goal.returns-then-meets_layout
@@ -36,7 +36,7 @@ unfolding change_refusal
 returns-then-meets_layout c =
     let l = c.args.l.now in
     let p = c.args.p in
-    let k = counted l p c.planned_count.result c.requires.0 c.requires.1 c.planned_count.ensures in
+    let k = counted l p c.planned_count.result c.requires.0 c.requires.1.within c.planned_count.ensures in
     sym (rw (
       le-ltb 16 (length (planned p (view l))) (omega arith),
       sym c.meets_layout.ensures ∙ c.if-meets_layout.true,
@@ -47,7 +47,7 @@ unfolding change_refusal
 returns-then-l c =
     let l = c.args.l.now in
     let p = c.args.p in
-    let k = counted l p c.planned_count.result c.requires.0 c.requires.1 c.planned_count.ensures in
+    let k = counted l p c.planned_count.result c.requires.0 c.requires.1.within c.planned_count.ensures in
     sym (rw (
       le-ltb 16 (length (planned p (view l))) (omega arith),
       sym c.meets_layout.ensures ∙ c.if-meets_layout.false,
@@ -59,7 +59,7 @@ unfolding change_refusal
 returns c =
     let l = c.args.l.now in
     let p = c.args.p in
-    let k = counted l p c.planned_count.result c.requires.0 c.requires.1 c.planned_count.ensures in
+    let k = counted l p c.planned_count.result c.requires.0 c.requires.1.within c.planned_count.ensures in
     sym (rw (
       le-ltb 16 (length (planned p (view l))) (omega arith),
       sym c.meets_layout.ensures ∙ c.if-meets_layout.false,

@@ -24,7 +24,7 @@ unfolding plan_says
 step l k p f = sym f.says
 
 pub check-requires : goal.check-requires
-check-requires c = let w = c.requires.2.within in (c.requires.0, w.within, w.few)
+check-requires c = (c.requires.0, c.requires.2.within)
 
 pub returns-in_err-check : goal.returns-in_err-check
 unfolding grow_says
@@ -52,7 +52,7 @@ changed-requires c =
     let w = c.requires.2.within.within in
     let k = free a.l (call_of a.offset a.mark a.table.now) a.p c.in_ok-check.ensures in
     let n = planned_length a.p (view a.l) (omega (arith, w, v.whole)) in
-    (v.few, w, omega (arith, n, k.few, v.whole, w), omega (arith, k.below))
+    (v.few, c.requires.2.within, omega (arith, n, k.few, v.whole, w), omega (arith, k.below))
 
 pub accepted-requires : goal.accepted-requires
 accepted-requires c =

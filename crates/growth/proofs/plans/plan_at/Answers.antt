@@ -49,7 +49,7 @@ offset_bounds-components-i c = omega (arith, (valid_facts c.args.l.now c.require
 pub held_plan-requires : goal.held_plan-requires
 held_plan-requires c =
     let l = c.args.l.now in
-    (few l (valid_facts l c.requires.0) _ c.components-components.ensures c.args.i c.requires.1, c.requires.2)
+    few l (valid_facts l c.requires.0) _ c.components-components.ensures c.args.i c.requires.1
 
 pub returns-then-not-c : goal.returns-then-not-c
 returns-then-not-c c =
@@ -74,7 +74,7 @@ extension_plan-requires c =
     let v = valid_facts l c.requires.0 in
     let e = c.components-components.ensures in
     let k = not_first l v _ e c.args.i c.requires.1 (not-false _ c.if-not-c.false) in
-    rw e (omega (arith, v.few, v.whole), omega (arith, k, v.whole, c.requires.1), v.keeps.fields, c.requires.2)
+    rw e (omega (arith, v.few, v.whole), omega (arith, k, v.whole, c.requires.1), v.keeps.fields)
 
 -- The plan of an extension.
 pub returns-in_err-change : goal.returns-in_err-change

@@ -1,7 +1,7 @@
--- `growth::plans::repeat_plan` meets its contract: the change that is chosen for, or the grant.
+-- `growth::plans::MarkedTable::repeat_plan` meets its contract: the change that is chosen for, or the grant.
 use Rattle.std.proofs.Common.{◌∙◌}
 use Rattle.growth.specs.Plans.{repeat_plan}
-use Rattle.growth.proofs.plans.repeat_plan.Goals as goal
+use Rattle.growth.proofs.plans.MarkedTable.repeat_plan.Goals as goal
 
 pub returns : goal.returns
 unfolding repeat_plan

@@ -1,21 +1,21 @@
--- `growth::plans::spill_plan` meets its contract.
+-- `growth::plans::MarkedTable::spill_plan` meets its contract.
 use Rattle.std.proofs.Common.{sym, ◌∙◌}
 use Rattle.growth.specs.PlanCases.{follow_count, spill_init, spill_chooses}
-use Rattle.growth.proofs.plans.spill_plan.Goals as goal
+use Rattle.growth.proofs.plans.MarkedTable.spill_plan.Goals as goal
 
 pub returns-then-next : goal.returns-then-next
 returns-then-next c =
     let a = c.args in
     rw (c.replacing.ensures, c.with_extent-m.ensures)
-    (sym (spill_init a.mark a.table.now a.j a.x a.next a.after.now c.if-next.true))
+    (sym (spill_init a.self.mark a.self.table.now a.j a.x a.next a.after.now c.if-next.true))
 
 pub choosing-requires : goal.choosing-requires
 choosing-requires c =
-    (rw (c.follow_plan.ensures, follow_count, c.with_extent-m.ensures) c.requires.1, c.requires.2)
+    rw (c.follow_plan.ensures, follow_count, c.with_extent-m.ensures) c.requires.1
 
 pub returns : goal.returns
 returns c =
     let a = c.args in
     c.choosing.ensures
     ∙ rw (c.follow_plan.ensures, c.with_extent-m.ensures)
-    (sym (spill_chooses a.mark a.table.now a.j a.x a.next a.after.now c.if-next.false))
+    (sym (spill_chooses a.self.mark a.self.table.now a.j a.x a.next a.after.now c.if-next.false))

@@ -1,15 +1,15 @@
--- `growth::plans::held_plan` meets its contract.
+-- `growth::plans::MarkedTable::held_plan` meets its contract.
 use Rattle.std.proofs.Common.{◌≡◌, Err, ap, sym, ◌∙◌}
 use borrow.Author.Rules.{rules}
 use Rattle.growth.specs.Plans.{plan_of}
 use Rattle.growth.specs.PlanCases.{held_stays, held_chooses}
-use Rattle.growth.proofs.plans.held_plan.Goals as goal
-use Rattle.growth.proofs.plans.held_plan.Goals.{then-c-via-then-c, then-c-via-else-c+then-c-2}
+use Rattle.growth.proofs.plans.MarkedTable.held_plan.Goals as goal
+use Rattle.growth.proofs.plans.MarkedTable.held_plan.Goals.{then-c-via-then-c, then-c-via-else-c+then-c-2}
 
 pub returns-then-c : goal.returns-then-c
 returns-then-c c =
     let a = c.args in
-    sym (held_stays a.mark a.table.now a.i a.c
+    sym (held_stays a.self.mark a.self.table.now a.i a.c
     (elim c.then-c.branch [
       | then-c-via-then-c w ↦ rw w.if-c.true
       | then-c-via-else-c+then-c-2 w ↦ rw (w.if-c.false, w.if-c-2.true)
@@ -20,10 +20,10 @@ returns-in_err-change c =
     let a = c.args in
     let r : c.from_residual.result ≡ Err c.in_err-change.field-0.0 = search rules in
     r ∙ ap plan_of (rw c.replacing.ensures at c.in_err-change.ensures)
-    ∙ sym (held_chooses a.mark a.table.now a.i a.c (rw (c.if-c.false, c.if-c-2.false)))
+    ∙ sym (held_chooses a.self.mark a.self.table.now a.i a.c (rw (c.if-c.false, c.if-c-2.false)))
 
 pub returns : goal.returns
 returns c =
     let a = c.args in
     ap plan_of (rw c.replacing.ensures at c.in_ok-change.ensures)
-    ∙ sym (held_chooses a.mark a.table.now a.i a.c (rw (c.if-c.false, c.if-c-2.false)))
+    ∙ sym (held_chooses a.self.mark a.self.table.now a.i a.c (rw (c.if-c.false, c.if-c-2.false)))

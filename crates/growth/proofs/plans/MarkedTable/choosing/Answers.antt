@@ -1,11 +1,11 @@
--- `growth::plans::choosing` meets its contract: there are as many chosen targets as stripes, or not.
+-- `growth::plans::MarkedTable::choosing` meets its contract: there are as many chosen targets as stripes, or not.
 use Rattle.std.proofs.Common.{◌≡◌, length, sym, ap, ◌∙◌, eq-eqb, ne_eqb}
 use Rattle.layout.specs.Records.{pack_objects}
 use Rattle.free_table.specs.declared.Choice.{Choice}
 use Rattle.free_table.specs.Table.{usable}
 use Rattle.free_table.specs.Choosing.{chosen}
 use Rattle.growth.specs.Plans.{choosing_plan}
-use Rattle.growth.proofs.plans.choosing.Goals as goal
+use Rattle.growth.proofs.plans.MarkedTable.choosing.Goals as goal
 
 pub returns-then-choice-s : goal.returns-then-choice-s
 unfolding choosing_plan
@@ -13,7 +13,7 @@ returns-then-choice-s c =
     let a = c.args in
     let s = a.p.made.stripe_count in
     let x = c.choose-choice in
-    let os = chosen (usable a.mark) s a.table.now in
+    let os = chosen (usable a.self.mark) s a.self.table.now in
     let n : x.result.count ≡ length os = ap (λ (y : Choice). y.count) x.ensures.0 in
     rw (ne_eqb (length os) s (λ e. c.if-choice-s.true (n ∙ e)))
 
@@ -23,7 +23,7 @@ returns c =
     let a = c.args in
     let s = a.p.made.stripe_count in
     let x = c.choose-choice in
-    let os = chosen (usable a.mark) s a.table.now in
+    let os = chosen (usable a.self.mark) s a.self.table.now in
     let n : length os ≡ s = sym (ap (λ (y : Choice). y.count) x.ensures.0) ∙ c.if-choice-s.false in
     let o : x.result.objects ≡ pack_objects os = ap (λ (y : Choice). y.objects) x.ensures.0 in
     rw (c.init_with.ensures, o, eq-eqb (length os) s n, n)

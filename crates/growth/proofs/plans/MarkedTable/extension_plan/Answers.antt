@@ -1,4 +1,4 @@
--- `growth::plans::extension_plan` meets its contract.
+-- `growth::plans::MarkedTable::extension_plan` meets its contract.
 use Rattle.std.specs.Prelude.{ℕ, ◌+◌, ◌<◌, ◌≡◌, List, ◌∷◌, length, get_or, drop, Ok}
 use Rattle.std.proofs.Common.{sym, ap, ◌∙◌, arith}
 use Rattle.std.proofs.lemmas.List.{drop_more}
@@ -11,7 +11,7 @@ use Rattle.free_table.specs.declared.TargetRecord.{TargetRecord}
 use Rattle.growth_rules.specs.Parts.{fresh_id}
 use Rattle.growth.specs.Plans.{extension_plan}
 use Rattle.growth.specs.PlanCases.{extension_chooses, extension_grants, extension_low}
-use Rattle.growth.proofs.plans.extension_plan.Goals as goal
+use Rattle.growth.proofs.plans.MarkedTable.extension_plan.Goals as goal
 
 -- The components from position j on.
 from : (cs : List Component) (j : ℕ) → j + 1 < length cs
@@ -30,34 +30,34 @@ pub choosing-requires : goal.choosing-requires
 choosing-requires c =
     -- The component at position j has at most 16 stripes.
     let few = kind_few (kind_at c.args.components.now c.requires.2 unread c.args.j (omega (arith, c.requires.1))) in
-    (rw c.granting-grant.ensures few, c.requires.3)
+    rw c.granting-grant.ensures few
 
 pub returns-then-not-c : goal.returns-then-not-c
 returns-then-not-c c =
     let a = c.args in
     c.choosing.ensures
     ∙ rw c.granting-grant.ensures
-    (sym (extension_chooses a.mark a.table.now _ a.j _ _ _ c.if-not-c.true))
-    ∙ asked a.components.now a.j a.mark a.table.now c.requires.1
+    (sym (extension_chooses a.self.mark a.self.table.now _ a.j _ _ _ c.if-not-c.true))
+    ∙ asked a.components.now a.j a.self.mark a.self.table.now c.requires.1
 
 pub returns-then-not-any_low : goal.returns-then-not-any_low
 returns-then-not-any_low c =
     let a = c.args in
     ap Ok c.granting-grant.ensures
-    ∙ sym (extension_grants a.mark a.table.now _ a.j _ _ _ c.if-not-c.false
+    ∙ sym (extension_grants a.self.mark a.self.table.now _ a.j _ _ _ c.if-not-c.false
     (rw (← c.objects.ensures) (sym c.any_low.ensures ∙ c.if-not-any_low.true)))
-    ∙ asked a.components.now a.j a.mark a.table.now c.requires.1
+    ∙ asked a.components.now a.j a.self.mark a.self.table.now c.requires.1
 
 pub low_plan-requires : goal.low_plan-requires
 low_plan-requires c =
     let r = c.requires in
     let few = kind_few (kind_at c.args.components.now r.2 unread c.args.j (omega (arith, r.1))) in
-    (r.0, r.1, r.2, few, r.3)
+    (r.0, r.1, r.2, few)
 
 pub returns : goal.returns
 returns c =
     let a = c.args in
     c.low_plan.ensures
-    ∙ sym (extension_low a.mark a.table.now _ a.j _ _ _ c.if-not-c.false
+    ∙ sym (extension_low a.self.mark a.self.table.now _ a.j _ _ _ c.if-not-c.false
     (rw (← c.objects.ensures) (sym c.any_low.ensures ∙ c.if-not-any_low.false)))
-    ∙ asked a.components.now a.j a.mark a.table.now c.requires.1
+    ∙ asked a.components.now a.j a.self.mark a.self.table.now c.requires.1

@@ -1,4 +1,4 @@
--- `growth::plans::low_plan` meets its contract: the extension is the last component, or not.
+-- `growth::plans::MarkedTable::low_plan` meets its contract: the extension is the last component, or not.
 use Rattle.std.specs.Prelude.{◌+◌, ◌-◌, ◌<◌, ◌≡◌, [], ◌∷◌, length, get_or, drop, Ok}
 use Rattle.std.proofs.Common.{ap, sym, ◌∙◌, arith, length-take, length-drop, drop_of_length-le}
 use Rattle.std.proofs.lemmas.List.{take_rest, drop_more, get_or-drop}
@@ -8,7 +8,7 @@ use Rattle.layout.specs.Records.{ids_of}
 use Rattle.layout.proofs.Unread.{unread}
 use Rattle.growth_rules.specs.Parts.{fresh_id}
 use Rattle.growth.specs.Plans.{low_plan}
-use Rattle.growth.proofs.plans.low_plan.Goals as goal
+use Rattle.growth.proofs.plans.MarkedTable.low_plan.Goals as goal
 
 pub spill_plan-requires : goal.spill_plan-requires
 spill_plan-requires c =
@@ -16,7 +16,7 @@ spill_plan-requires c =
     let k = c.args.j + 2 in
     let h : k + 0 < length cs = omega (arith, length-take (length cs - k) (drop k cs), length-drop k cs) in
     let few = kind_few (kind_at cs c.requires.2 unread (k + 0) h) in
-    (omega (arith, c.requires.0, c.requires.1), rw (take_rest cs k, get_or-drop k cs 0 unread) few, c.requires.4)
+    (omega (arith, c.requires.0, c.requires.1), rw (take_rest cs k, get_or-drop k cs 0 unread) few)
 
 pub returns-in-empty : goal.returns-in-empty
 unfolding low_plan
@@ -27,7 +27,7 @@ returns-in-empty c =
     let none : drop k cs ≡ [] =
     drop_of_length-le cs (omega (arith, length-take (length cs - k) (drop k cs), length-drop k cs)) in
     ap Ok (c.repeat_plan.ensures ∙ rw c.fresh_id.ensures)
-    ∙ sym (ap (low_plan a.mark a.table.now (fresh_id (ids_of cs)) a.j a.c a.x) none)
+    ∙ sym (ap (low_plan a.self.mark a.self.table.now (fresh_id (ids_of cs)) a.j a.c a.x) none)
 
 pub returns-in-len1-up : goal.returns-in-len1-up
 unfolding low_plan
@@ -38,4 +38,4 @@ returns-in-len1-up c =
     let h : 0 < length (drop k cs) = omega (arith, length-take (length cs - k) (drop k cs), length-drop k cs) in
     let some : drop k cs ≡ get_or (drop k cs) 0 unread ∷ drop 1 (drop k cs) = drop_more (drop k cs) 0 unread h in
     (rw (take_rest cs k, take_rest (drop k cs) 1) at c.spill_plan.ensures)
-    ∙ sym (ap (low_plan a.mark a.table.now (fresh_id (ids_of cs)) a.j a.c a.x) some)
+    ∙ sym (ap (low_plan a.self.mark a.self.table.now (fresh_id (ids_of cs)) a.j a.c a.x) some)

@@ -1,28 +1,32 @@
 -- A scan of the rows that hold object records tells whether these differ.
-use Prim.Native.Nat.{ℕ, ◌≤◌, ◌<◌}
-use mathlib.Core.Path.{◌≡◌, refl, sym, ap, ◌∙◌}
-use mathlib.Core.List.{List, [], ◌∷◌}
-use mathlib.Core.Bool.{Bool, true}
-use native.Mathlib.Omega.{arith}
-use lib.Dec.{eqb}
-use lib.ListN.{length, take}
-use lib.Seq.{sets}
-use Rattle.lists.specs.Tests.{every, first_failed, length_along}
-use Rattle.lists.proofs.TestLaws.{failed_every}
+use Rattle.std.specs.Prelude.{ℕ, ◌≤◌, ◌<◌, ◌≡◌, refl, List, [], ◌∷◌, Option, is_some, Bool, true, false, not, length, take}
+use Rattle.std.proofs.Common.{sym, ◌∙◌, arith}
+use Rattle.std.proofs.lemmas.List.Edits.{sets}
+use Rattle.lists.specs.Tests.{every, first_failed, found, length_along}
 use Rattle.lists.specs.Counting.{fresh, unseen, seen_with}
+use Rattle.lists.proofs.Found.{some_found}
 use Rattle.layout.specs.declared.Object.{Object}
-use Rattle.layout.specs.Rows.{targets_of, numbers_of, named, rows_back}
+use Rattle.layout.specs.Rows.{targets_of, numbers_of, named, take_named, rows_back}
 use Rattle.layout.specs.Distinct.{same_object}
 
--- The rows ts and ns, with `all` object records stored in their first places; the scan of them stops at r.
-pub scanned : (ts ns ts' ns' : List ℕ) (os : List Object) (all r : ℕ) → length os ≤ length ts → length os ≤ length ns
+not_same : (a b : Bool) → not a ≡ not b → a ≡ b
+not_same true true e = refl
+not_same true false e = absurd cc
+not_same false true e = absurd cc
+not_same false false e = refl
+
+-- The rows ts and ns, with `all` object records stored in their first places: the first places name the records.
+pub stored : (ts ns ts' ns' : List ℕ) (os : List Object) (all : ℕ) → length os ≤ length ts → length os ≤ length ns
     → all ≡ length os → ts' ≡ sets ts 0 (targets_of os) → ns' ≡ sets ns 0 (numbers_of os)
-    → r ≡ first_failed (fresh same_object (take all (named ts' ns')))
-    → eqb r all ≡ every (fresh same_object os)
-scanned ts ns ts' ns' os all r h k a t n f =
-    let rows : take all (named ts' ns') ≡ os = rw (a, t, n) (rows_back ts ns os h k) in
-    failed_every (fresh same_object os) r all (f ∙ ap (λ (l : List Object). first_failed (fresh same_object l)) rows)
-    (length_along (unseen same_object) seen_with _ os ∙ sym a)
+    → named (take all ts') (take all ns') ≡ os
+stored ts ns ts' ns' os all h k a t n = sym (take_named all ts' ns') ∙ rw (a, t, n) (rows_back ts ns os h k)
+
+-- What is said of the scan of them: no record equals one before it exactly if all differ.
+pub scanned : (os ps : List Object) (r : Option ℕ) (b : Bool) → ps ≡ os
+    → r ≡ found (first_failed (fresh same_object ps)) (length ps) → is_some r ≡ not b → b ≡ every (fresh same_object os)
+scanned os ps r b w f n =
+    let s = some_found (fresh same_object ps) r (length ps) f (length_along (unseen same_object) seen_with [] ps) in
+    rw (← w) (not_same b (every (fresh same_object ps)) (sym n ∙ s))
 
 -- Fewer than two elements differ.
 pub fresh_few : {A : Type 0} (same : A → A → Bool) (l : List A) → length l < 2 → every (fresh same l) ≡ true

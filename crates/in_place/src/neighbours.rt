@@ -1,12 +1,14 @@
 // The neighbour rules (7), asked of components at places.
-ghost use Rattle.std.specs.Prelude.{◌≡◌, ◌+◌, ◌≤◌, length, take};
-ghost use Rattle.std.proofs.Math.Seq.{slice};
+ghost use Rattle.std.specs.Prelude.{◌≡◌, ◌+◌, ◌≤◌, length};
+ghost use Rattle.refusals.specs.Refusals.{number_in};
 ghost use Rattle.layout.specs.Records.{neighbour_of, neighbours_of};
 ghost use Rattle.page.specs.Content.{component_at};
 ghost use Rattle.in_place.specs.Places.{components_at, Within};
 ghost use Rattle.in_place.specs.Joining.{none_before, joins, last_of, new_rule_broken};
 
-use layout::Neighbour;
+use bytes_le::{LittleEndian, flags};
+use layout::{Neighbour, neighbours};
+use refusals::Refusal;
 
 const NONE_BEFORE: Neighbour = Neighbour {
     init: true,
@@ -20,66 +22,58 @@ pub fn neighbour_at(s: &[u8], at: usize) -> Neighbour
     requires { at + 40 ≤ length s.now }
     ensures { result ≡ neighbour_of (component_at s.now at) }
 {
-    let flags = bytes_le::u16_at(s, at + 2);
+    let word = u16::read_at(s, at + 2);
     Neighbour {
-        init: bytes_le::flags::first(flags),
-        extension: bytes_le::flags::second(flags),
-        begin: bytes_le::u64_at(s, at + 16),
-        end: bytes_le::u64_at(s, at + 24),
+        init: flags::is_set(word, 0),
+        extension: flags::is_set(word, 1),
+        begin: u64::read_at(s, at + 16),
+        end: u64::read_at(s, at + 24),
     }
 }
 
 // Do the neighbour rules hold between a component and the one directly before it?
+#[tactic(auto, unfolding(crate::specs::Joining::joins))]
 fn joins(before: Neighbour, c: Neighbour) -> bool
     ensures { result ≡ joins before c }
 {
     (c.begin == before.end)
-        & layout::neighbours::follows_ok(!before.extension, c.extension)
-        & layout::neighbours::empty_ok(before.init, before.begin, before.end, c.extension)
+        & neighbours::follows_ok(!before.extension, c.extension)
+        & neighbours::empty_ok(before, c.extension)
 }
 
-// What is directly before the component at position i: the component at the place before, or, for the first, what
-// is taken if there is none.
-fn before(s: &[u8], places: &[usize; 16], i: usize) -> Neighbour
-    requires { (i ≤ 16) × Within s.now i places.now }
-    ensures { result
-        ≡ last_of none_before (neighbours_of (components_at s.now (take i places.now))) }
+// The last of the components at the places, or what is taken as the one before the first.
+fn last_at(s: &[u8], places: &[usize]) -> Neighbour
+    requires { Within s.now (length places.now) places.now }
+    ensures { result ≡ last_of none_before (neighbours_of (components_at s.now places.now)) }
 {
-    if i == 0 {
-        return NONE_BEFORE;
+    match places.last() {
+        Some(at) => neighbour_at(s, *at),
+        None => NONE_BEFORE,
     }
-    // The 16 places, as a slice.
-    let list: &[usize] = places;
-    neighbour_at(s, list[i - 1])
 }
 
-// 6 or 7, the first of them whose rule the components at the places from `from` up to `to` break after those at the
-// first `from` places, or 0. `more` says that pages are outstanding. One pass asks both rules.
-pub fn new_rule_broken(s: &[u8], places: &[usize; 16], from: usize, to: usize, more: bool) -> u8
-    requires { (from ≤ to) × (to ≤ 16) × Within s.now to places.now }
-    ensures { let b = s.now in let ps = places.now in
-        result ≡ new_rule_broken more (components_at b (take from ps)) (components_at b (slice from to ps)) }
+// Do the components at new places keep the rules of fields and of neighbours, asked in this order, after those at the
+// old places? `more` says that pages are outstanding. One pass asks both rules.
+pub fn check_new(s: &[u8], old: &[usize], new: &[usize], more: bool) -> Result<(), Refusal>
+    requires { Within s.now (length old.now) old.now × Within s.now (length new.now) new.now }
+    ensures { let b = s.now in
+        number_in result ≡ new_rule_broken more (components_at b old.now) (components_at b new.now) }
 {
-    // The 16 places, as a slice.
-    let list: &[usize] = places;
     let mut sound = true;
     let mut joined = true;
-    let mut last = before(s, places, from);
-    let mut i = from;
-    while i < to {
-        let at = list[i];
-        let c = neighbour_at(s, at);
-        sound = sound & crate::fields::fields_ok(s, at);
-        joined = joined & joins(last, c);
+    let mut last = last_at(s, old);
+    for at in new {
+        let c = neighbour_at(s, *at);
+        sound &= crate::fields::fields_ok(s, *at);
+        joined &= joins(last, c);
         last = c;
-        i += 1;
     }
     if !sound {
-        return 6;
+        return Err(Refusal::Fields);
     }
-    let ends = more | (last.begin != last.end);
+    let ends = more | !last.is_empty();
     if joined & ends {
-        return 0;
+        return Ok(());
     }
-    7
+    Err(Refusal::Neighbours)
 }

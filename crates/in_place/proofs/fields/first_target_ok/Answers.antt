@@ -13,7 +13,7 @@ use Rattle.in_place.proofs.fields.first_target_ok.Goals as goal
 
 pub returns-then-not-init : goal.returns-then-not-init
 returns-then-not-init c =
-    let i = c.i32_at-first in
+    let i = c.read_at-first in
     let a = c.args in
     let z = i32_at a.s.now (a.at + 12) in
     let e = to_z-of_z {w = w32} (sfits_of i.type_inv) ∙ i.ensures in
@@ -30,12 +30,12 @@ returns-then-n-eq0 c =
 
 pub returns : goal.returns
 returns c =
-    let i = c.i32_at-first in
+    let i = c.read_at-first in
     let a = c.args in
     let h : 0 < a.n = omega arith in
     let z = i32_at a.s.now (a.at + 12) in
     let e = to_z-of_z {w = w32} (sfits_of i.type_inv) ∙ i.ensures in
     let b = c.if-not-init.false in
-    let t = c.u32_at in
+    let t = c.read_at in
     rw (b, first_after z a.s.now a.at a.n h)
     (c.is_target.ensures ∙ ap (λ (y : ℤ). is_target y t.result) e ∙ ap (is_target z) t.ensures)

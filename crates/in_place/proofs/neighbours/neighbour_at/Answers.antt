@@ -6,9 +6,9 @@ pub returns : goal.returns
 unfolding component_at
 returns c =
     rw (
-      ← c.u16_at-flags.ensures,
-      ← c.first.ensures,
-      ← c.second.ensures,
-      ← c.u64_at.ensures,
-      ← c.u64_at-2.ensures,
+      ← c.read_at-word.ensures,
+      ← c.is_set.ensures,
+      ← c.is_set-2.ensures,
+      ← c.read_at.ensures,
+      ← c.read_at-2.ensures,
     )

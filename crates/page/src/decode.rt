@@ -9,6 +9,7 @@ use bytes_le::{LittleEndian, flags};
 use layout::{Component, NO_OBJECT, Object};
 
 // The object record at the place.
+#[tactic(auto, unfolding(crate::specs::Content::object_at))]
 pub fn object_at(s: &[u8], at: usize) -> Object
     requires { at + 16 ≤ length s.now }
     ensures { result ≡ object_at s.now at }

@@ -7,11 +7,12 @@ ghost use Rattle.page.specs.Walked.{Walks, Walked};
 use bytes_le::{LittleEndian, flags};
 
 // Has the object record at the place its form?
+#[tactic(auto, unfolding(crate::specs::Form::object_form))]
 fn object_form(s: &[u8], at: usize) -> bool
     requires { at + 16 ≤ length s.now }
     ensures { result ≡ object_form s.now at }
 {
-    (u16::read_at(s, at) == crate::OBJECT_MARK) & (u16::read_at(s, at + 2) == 0)
+    u16::read_at(s, at) == crate::OBJECT_MARK && u16::read_at(s, at + 2) == 0
 }
 
 // Have the n object records from the place on their form?
@@ -23,15 +24,17 @@ pub fn objects_form(s: &[u8], at: usize, n: usize) -> bool
 }
 
 // Has the component at the place its mark, and no flag but init and extension?
+#[tactic(auto, unfolding(crate::specs::Form::component_marks))]
 pub fn component_marks(s: &[u8], at: usize) -> bool
     requires { at + 40 ≤ length s.now }
     ensures { result ≡ component_marks s.now at }
 {
     let word = u16::read_at(s, at + 2);
-    (u16::read_at(s, at) == crate::COMPONENT_MARK) & flags::only_first_bits(word, 2)
+    u16::read_at(s, at) == crate::COMPONENT_MARK && flags::only_first_bits(word, 2)
 }
 
 // The number of object records after the component at the place: the stripe count if init is set, else none.
+#[tactic(auto, unfolding(crate::specs::Form::records_at))]
 pub fn record_count(s: &[u8], at: usize) -> usize
     requires { at + 40 ≤ length s.now }
     ensures { (result ≡ records_at s.now at) × (result < 65536) }
@@ -44,15 +47,16 @@ pub fn record_count(s: &[u8], at: usize) -> usize
 }
 
 // Has the head its form?
+#[tactic(auto, unfolding(crate::specs::Form::head_form))]
 pub fn head_form(s: &[u8]) -> bool
     requires { 16 ≤ length s.now }
     ensures { result ≡ head_form s.now }
 {
     let word = u16::read_at(s, 2);
-    (u16::read_at(s, 0) == crate::PAGE_MARK)
-        & flags::only_first_bits(word, 1)
-        & (1 <= u16::read_at(s, 6))
-        & (u32::read_at(s, 12) == 0)
+    u16::read_at(s, 0) == crate::PAGE_MARK
+        && flags::only_first_bits(word, 1)
+        && 1 <= u16::read_at(s, 6)
+        && u32::read_at(s, 12) == 0
 }
 
 // Stores a place at position i, if there is one.

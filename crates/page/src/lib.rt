@@ -33,6 +33,7 @@ impl Head {
     ghost use Rattle.page.specs.Bytes.{head_bytes};
 
     // What the head of the page says that the bytes begin with.
+    #[tactic(auto, unfolding(crate::specs::Content::head_of))]
     pub fn read(page: &[u8]) -> Head
         requires { 16 ≤ length page.now }
         ensures { result ≡ head_of page.now }

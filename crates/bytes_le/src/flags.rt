@@ -20,34 +20,6 @@ pub fn only_first_bits(flags: u16, n: u32) -> bool
     flags & mask == 0
 }
 
-// Is bit 0 set?
-pub fn first(flags: u16) -> bool
-    ensures { result ≡ is_set 0 flags }
-{
-    is_set(flags, 0)
-}
-
-// Is bit 1 set?
-pub fn second(flags: u16) -> bool
-    ensures { result ≡ is_set 1 flags }
-{
-    is_set(flags, 1)
-}
-
-// Is no bit set but bit 0?
-pub fn only_first(flags: u16) -> bool
-    ensures { result ≡ only_first 1 flags }
-{
-    only_first_bits(flags, 1)
-}
-
-// Is no bit set but bits 0 and 1?
-pub fn only_first_two(flags: u16) -> bool
-    ensures { result ≡ only_first 2 flags }
-{
-    only_first_bits(flags, 2)
-}
-
 // The flag word with bit 0 and bit 1 as given, and no other set.
 pub fn word(first: bool, second: bool) -> u16
     ensures { result ≡ flag_word first second }

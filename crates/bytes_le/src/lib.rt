@@ -4,7 +4,7 @@
 ghost use Rattle.std.specs.Prelude.{ℕ, FitsSigned, ◌≡◌, ◌+◌, ◌^◌, ◌≤◌, ◌<◌, List, ◌++◌, length, take, drop};
 ghost use Rattle.std.specs.Int.{w32};
 ghost use Rattle.std.proofs.lemmas.List.Edits.{sets};
-ghost use Rattle.bytes_le.specs.Numbers.{u16_at, u32_at, u64_at, i32_at, bits_of, AreBytes};
+ghost use Rattle.bytes_le.specs.Numbers.{u16_at, u32_at, u64_at, i32_at, AreBytes};
 ghost use Rattle.bytes_le.specs.Numbers.{u16_bytes, u32_bytes, u64_bytes, i32_bytes};
 ghost use Rattle.bytes_le.specs.NumberLaws.{u16_length, u32_length, u64_length, i32_length};
 ghost use Rattle.bytes_le.specs.NumberLaws.{u16_back, u32_back, u64_back, i32_back};
@@ -149,67 +149,4 @@ impl LittleEndian for i32 {
     fn write_at(self, buffer: &mut [u8], at: usize) {
         self.cast_unsigned().write_at(buffer, at);
     }
-}
-
-// The number in the two bytes from `at` on.
-pub fn u16_at(s: &[u8], at: usize) -> u16
-    requires { at + 2 ≤ length s.now }
-    ensures { result ≡ u16_at s.now at }
-{
-    u16::read_at(s, at)
-}
-
-// The number in the four bytes from `at` on.
-pub fn u32_at(s: &[u8], at: usize) -> u32
-    requires { at + 4 ≤ length s.now }
-    ensures { result ≡ u32_at s.now at }
-{
-    u32::read_at(s, at)
-}
-
-// The number in the eight bytes from `at` on.
-pub fn u64_at(s: &[u8], at: usize) -> u64
-    requires { at + 8 ≤ length s.now }
-    ensures { result ≡ u64_at s.now at }
-{
-    u64::read_at(s, at)
-}
-
-// The signed number in the four bytes from `at` on.
-pub fn i32_at(s: &[u8], at: usize) -> i32
-    requires { at + 4 ≤ length s.now }
-    ensures { result ≡ i32_at s.now at }
-{
-    i32::read_at(s, at)
-}
-
-// The 32 bits of a signed number, in two's complement.
-pub fn bits_of(number: i32) -> u32
-    ensures { result ≡ bits_of number }
-{
-    number.cast_unsigned()
-}
-
-// Writes the number into the two bytes from `at` on.
-pub fn put_u16(buffer: &mut [u8], at: usize, number: u16)
-    requires { at + 2 ≤ length buffer.old }
-    ensures { buffer.new ≡ sets buffer.old at (u16_bytes number) }
-{
-    number.write_at(buffer, at);
-}
-
-// Writes the number into the four bytes from `at` on.
-pub fn put_u32(buffer: &mut [u8], at: usize, number: u32)
-    requires { at + 4 ≤ length buffer.old }
-    ensures { buffer.new ≡ sets buffer.old at (u32_bytes number) }
-{
-    number.write_at(buffer, at);
-}
-
-// Writes the number into the eight bytes from `at` on.
-pub fn put_u64(buffer: &mut [u8], at: usize, number: u64)
-    requires { at + 8 ≤ length buffer.old }
-    ensures { buffer.new ≡ sets buffer.old at (u64_bytes number) }
-{
-    number.write_at(buffer, at);
 }

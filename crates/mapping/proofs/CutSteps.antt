@@ -81,7 +81,8 @@ module _ (cs : List Component) {a b : ℕ} {lent : List ℕ} where
   pub put_none : AreValid cs → Put a b (spans_of cs) lent 0 0 lent
   put_none e = record { each = cuttable cs e; kept = refl; ends = zero-add _; stored = refl }
 
-  module _ {i w : ℕ} {room : List ℕ} (p : Put a b (spans_of cs) lent i w room) {x : Span} (h : i < length cs) (at : x ≡ span_of (get_or cs i no_component)) where
+  module _ {i w : ℕ} {room : List ℕ} (p : Put a b (spans_of cs) lent i w room)
+      {x : Span} (h : i < length cs) (at : x ≡ span_of (get_or cs i no_component)) where
     -- Component i can be cut, and there is room for its pieces.
     pub put_cuttable : Cuttable x
     put_cuttable = (rw (next cs i x h at) at p.each).0
@@ -101,7 +102,8 @@ module _ (cs : List Component) {a b : ℕ} {lent : List ℕ} where
     }
 
 -- After the last component.
-pub put_all : (cs : List Component) {a b : ℕ} {lent : List ℕ} {i w : ℕ} {room : List ℕ} → Put a b (spans_of cs) lent i w room
-    → length cs ≤ i → room ≡ sets lent 0 (all_numbers (pieces_of a b (spans_of cs)))
+pub put_all : (cs : List Component) {a b : ℕ} {lent : List ℕ} {i w : ℕ} {room : List ℕ}
+    → Put a b (spans_of cs) lent i w room → length cs ≤ i
+    → room ≡ sets lent 0 (all_numbers (pieces_of a b (spans_of cs)))
 put_all cs {a} {b} {lent} {i} {w} {room} p h =
     sym (p.stored ∙ rw (done cs i h))

@@ -1,5 +1,6 @@
 -- What a loop knows that looks for the first element of a list that passes a test, and what the answer `found` says.
-use Rattle.std.specs.Prelude.{ℕ, ◌+◌, ◌<◌, ◌≤◌, ◌≡◌, List, Bool, true, false, Option, Some, None, ltb, length, get_or, drop}
+use Rattle.std.specs.Prelude.{ℕ, ◌+◌, ◌<◌, ◌≤◌, ◌≡◌, List, Bool, true, false, ltb, length, get_or, drop}
+use Rattle.std.specs.Prelude.{Option, Some, None}
 use Rattle.std.proofs.Common.{◌∙◌, arith, drop-cons, add-one, add-zero, ltb-true, ltb-false}
 use Rattle.lists.specs.Bools.{cond_elim}
 use Rattle.lists.specs.Tests.{first_that, found}
@@ -19,7 +20,8 @@ found_none i n =
     (λ t e. ltb-false i n t)
 
 -- None of the first i elements passes the test, so the first that does is among the rest.
-module _ {A : Type 0} (test : A → Bool) (l : List A) (i : ℕ) (d : A) (h : i < length l) (far : first_that test l ≡ i + first_that test (drop i l)) where
+module _ {A : Type 0} (test : A → Bool) (l : List A) (i : ℕ) (d : A) (h : i < length l)
+    (far : first_that test l ≡ i + first_that test (drop i l)) where
   -- Nor does the next one.
   pub first_later : test (get_or l i d) ≡ false → first_that test l ≡ i + 1 + first_that test (drop (i + 1) l)
   first_later e = far ∙ rw (drop-cons l i d h, e, add-one) (omega arith)

@@ -9,7 +9,8 @@ use Rattle.layout.specs.declared.Component.{Component}
 use Rattle.layout.specs.Holder.{last_end}
 
 -- The last end is that of the last component.
-pub last_end-get_or : (cs : List Component) (d : Component) → 1 ≤ length cs → last_end cs ≡ (get_or cs (length cs - 1) d).end
+pub last_end-get_or : (cs : List Component) (d : Component) → 1 ≤ length cs
+    → last_end cs ≡ (get_or cs (length cs - 1) d).end
 last_end-get_or cs d h =
     let n : length cs ≡ length cs - 1 + 1 = omega arith in
     sym (ap last_end (take-length cs))

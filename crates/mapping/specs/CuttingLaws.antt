@@ -101,7 +101,8 @@ module _ (end a m n : ℕ) (xs : List Span) where
       abbrev asked : Answer ℕ
       asked = answer (cond (any_of (not_init_asked a (a + m)) xs) 11 0) (piece_count a (a + m) xs)
 
-      pub asked_refused : (r : ℕ) → refuses r ≡ asked → refuses r ≡ answer (refusal_by end a m n xs) (piece_count a (a + m) xs)
+      pub asked_refused : (r : ℕ) → refuses r ≡ asked
+          → refuses r ≡ answer (refusal_by end a m n xs) (piece_count a (a + m) xs)
       asked_refused r e =
           bool_cases (any_of (not_init_asked a (a + m)) xs)
           (λ t. rw t at e ∙ rw (← refused_11 t))
@@ -133,6 +134,7 @@ module _ (end a m : ℕ) (xs : List Span) (room : List ℕ) where
 
   -- A request that is accepted.
   pub cut_accepted : (k : ℕ) → gives k ≡ answer number (piece_count a (a + m) xs)
-      → (number ≡ 0) × (sets room 0 (all_numbers (pieces_of a (a + m) xs)) ≡ room_after number (pieces_of a (a + m) xs) room)
+      → (number ≡ 0)
+      × (sets room 0 (all_numbers (pieces_of a (a + m) xs)) ≡ room_after number (pieces_of a (a + m) xs) room)
   unfolding room_after
   cut_accepted k e = let z = (answer_gives number (piece_count a (a + m) xs) k (sym e)).0 in (z, rw z refl)

@@ -1,7 +1,6 @@
 -- `mapping::cut` meets its contract: 1 is asked first; of a valid layout the rest is `cut_valid`'s answer.
-use mathlib.Core.Path.{ap}
+use mathlib.Core.Path.{ap, refl}
 use mathlib.Core.Bool.{not}
-use mathlib.Core.Path.{refl}
 use Rattle.mapping.specs.AnswerLaws.{invalid_by, valid_by}
 use Rattle.mapping.specs.Cutting.{cut_in, cut_of, cut_says, room_after}
 use Rattle.mapping.proofs.cut.Goals as goal
@@ -13,8 +12,7 @@ returns-then-not-is_valid c = rw (invalid_by _ _ c.is_valid.ensures (ap not c.if
 pub returns : goal.returns
 unfolding cut_of cut_in
 returns c =
-    let e = c in
-    rw (valid_by _ _ e.is_valid.ensures (ap not e.if-not-is_valid.false)) c.cut_valid.ensures
+    rw (valid_by _ _ c.is_valid.ensures (ap not c.if-not-is_valid.false)) c.cut_valid.ensures
 
 pub cut_valid-requires : goal.cut_valid-requires
 cut_valid-requires c = valid_by _ _ c.is_valid.ensures (ap not c.if-not-is_valid.false)

@@ -1,7 +1,8 @@
 -- `stripe::file_byte` meets its contract: a product or sum that is not below 2^64 is at most the file byte, so that is
 -- not below it either.
 use native.Mathlib.Nat.{le-mul_of_pos_right}
-use Rattle.std.proofs.Common.{◌≡◌, ◌∙◌, ℕ, ◌+◌, ◌*◌, ◌/◌, ◌%◌, ◌^◌, ◌<◌, Option, Some, None, SomeIff, sym, ap, arith, rules}
+use Rattle.std.proofs.Common.{◌≡◌, ◌∙◌, ℕ, ◌+◌, ◌*◌, ◌/◌, ◌%◌, ◌^◌, ◌<◌, sym, ap, arith, rules}
+use Rattle.std.proofs.Common.{Option, Some, None, SomeIff}
 use Rattle.stripe.specs.Stripe.{file_byte, file_byte_below}
 use Rattle.stripe.specs.Laws.{file_byte_some, file_byte_none}
 use Rattle.stripe.proofs.file_byte.Goals as goal

@@ -16,7 +16,8 @@ returns-in_err-pieces g c =
     let cs = g.C.Components.list a.components.now in
     let r : c.from_residual.result ≡ Err c.in_err-pieces.field-0.0 = search rules in
     let e = c.in_err-pieces.ensures in
-    rw r (e, cut_refused (last_end cs) a.offset a.bytes (spans_of cs) a.room.now (number_of c.in_err-pieces.field-0.0) e)
+    let number = number_of c.in_err-pieces.field-0.0 in
+    rw r (e, cut_refused (last_end cs) a.offset a.bytes (spans_of cs) a.room.now number e)
 
 -- Past the count, the request is accepted.
 pub overflow_add-stop : goal.overflow_add-stop
@@ -24,7 +25,8 @@ unfolding cut_says cut_in
 overflow_add-stop g c =
     let a = c.args in
     let cs = g.C.Components.list a.components.now in
-    let done = cut_accepted (last_end cs) a.offset a.bytes (spans_of cs) a.room.now c.in_ok-pieces.pieces c.in_ok-pieces.ensures in
+    let done = cut_accepted (last_end cs) a.offset a.bytes (spans_of cs) a.room.now c.in_ok-pieces.pieces
+    c.in_ok-pieces.ensures in
     let k = accepted_facts (last_end cs) a.offset a.bytes (length a.room.now) (spans_of cs) done.0 in
     omega (arith, k.below)
 
@@ -33,7 +35,8 @@ unfolding cut_says cut_in
 put_pieces-requires g c =
     let a = c.args in
     let cs = g.C.Components.list a.components.now in
-    let done = cut_accepted (last_end cs) a.offset a.bytes (spans_of cs) a.room.now c.in_ok-pieces.pieces c.in_ok-pieces.ensures in
+    let done = cut_accepted (last_end cs) a.offset a.bytes (spans_of cs) a.room.now c.in_ok-pieces.pieces
+    c.in_ok-pieces.ensures in
     let k = accepted_facts (last_end cs) a.offset a.bytes (length a.room.now) (spans_of cs) done.0 in
     (omega (arith, k.room))
 
@@ -42,5 +45,6 @@ unfolding cut_says cut_in
 returns g c =
     let a = c.args in
     let cs = g.C.Components.list a.components.now in
-    let done = cut_accepted (last_end cs) a.offset a.bytes (spans_of cs) a.room.now c.in_ok-pieces.pieces c.in_ok-pieces.ensures in
+    let done = cut_accepted (last_end cs) a.offset a.bytes (spans_of cs) a.room.now c.in_ok-pieces.pieces
+    c.in_ok-pieces.ensures in
     (c.in_ok-pieces.ensures, c.put_pieces.ensures ∙ done.1)

@@ -6,4 +6,5 @@ use Rattle.mapping.proofs.cutting.last_end.Goals as goal
 pub returns : goal.returns
 returns g c =
     let cs = g.C.Components.list c.args.components.now in
-    rw (last_end-get_or cs no_component (g.met.C.Components.valid c.args.components.now).0, ← c.count.ensures) c.end.ensures
+    let some = (g.met.C.Components.valid c.args.components.now).0 in
+    rw (last_end-get_or cs no_component some, ← c.count.ensures) c.end.ensures

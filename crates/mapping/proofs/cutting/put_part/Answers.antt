@@ -12,5 +12,6 @@ returns-then-part c =
     let a = c.args in
     let units = part_init a.request.offset a.request.stop a.c (not-false a.c.init c.if-not-c.false) in
     let none : part_count a.request.offset a.request.stop a.c ≡ 0
-    = rw (← units, ← c.part-part.ensures.0, ← c.part-part.ensures.1) (unit_count_none a.c.stripe_size _ _ c.if-part.true) in
+    = rw (← units, ← c.part-part.ensures.0, ← c.part-part.ensures.1)
+    (unit_count_none a.c.stripe_size _ _ c.if-part.true) in
     (part_none a.request.offset a.request.stop a.c a.room.now a.at none, omega arith)

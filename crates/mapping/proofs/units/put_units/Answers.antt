@@ -26,7 +26,8 @@ loop-left-preserved-then-stripe-count c =
     let h = c.requires in
     let k = c.loop-left.invariant.0 in (
       after_last h.0 h.1 k c.if-stripe-count.true refl refl,
-      written_next h.0 h.1 k c.loop-left.invariant.1 c.loop-left-test.true refl refl c.put_piece.auto.room c.put_piece.ensures,
+      written_next h.0 h.1 k c.loop-left.invariant.1 c.loop-left-test.true refl refl c.put_piece.auto.room
+          c.put_piece.ensures,
     )
 
 pub loop-left-preserved : goal.loop-left-preserved
@@ -34,7 +35,8 @@ loop-left-preserved c =
     let h = c.requires in
     let k = c.loop-left.invariant.0 in (
       after_other h.0 h.1 k c.if-stripe-count.false refl refl,
-      written_next h.0 h.1 k c.loop-left.invariant.1 c.loop-left-test.true refl refl c.put_piece.auto.room c.put_piece.ensures,
+      written_next h.0 h.1 k c.loop-left.invariant.1 c.loop-left-test.true refl refl c.put_piece.auto.room
+          c.put_piece.ensures,
     )
 
 pub put_piece-requires-2 : goal.put_piece-requires-2
@@ -45,4 +47,5 @@ put_piece-requires-2 c =
 pub returns : goal.returns
 returns c =
     let h = c.requires in
-    written_last h.0 h.1 c.loop-left.invariant.0 c.loop-left.invariant.1 c.loop-left-test.false refl c.put_piece-2.ensures
+    written_last h.0 h.1 c.loop-left.invariant.0 c.loop-left.invariant.1 c.loop-left-test.false refl
+    c.put_piece-2.ensures

@@ -44,5 +44,9 @@ returns c =
     let s = c.args.self.now in
     let at = get_or s.places.now c.args.i 0 in
     let os = records_of (component_at s.pages.now at) in
-    let none : length os ≤ position_in c.args.object os = omega (arith, records_length s.pages.now at, c.loop-j.invariant) in
-    rw (component_placed s.pages.now s.places.now c.args.i c.requires, le-ltb (position_in c.args.object os) (length os) none)
+    let none : length os ≤ position_in c.args.object os
+    = omega (arith, records_length s.pages.now at, c.loop-j.invariant) in
+    rw (
+      component_placed s.pages.now s.places.now c.args.i c.requires,
+      le-ltb (position_in c.args.object os) (length os) none,
+    )

@@ -40,8 +40,8 @@ fn accepted(l: Layout, offset: u64, changed: bool) -> Grown
 }
 
 // Is the object among the object records of the component?
-fn is_in(c: Component, o: Object) -> bool
-    ensures { result ≡ elem same_object o (records_of c) }
+fn is_in(c: &Component, o: Object) -> bool
+    ensures { result ≡ elem same_object o (records_of c.now) }
 {
     c.objects().iter().any(|other| o == *other)
 }
@@ -50,7 +50,7 @@ fn is_in(c: Component, o: Object) -> bool
 fn is_among(components: &[Component], o: Object) -> bool
     ensures { result ≡ elem same_object o (records_in components.now) }
 {
-    components.iter().any(|c| is_in(*c, o))
+    components.iter().any(|c| is_in(c, o))
 }
 
 // Is one of the objects in the layout?

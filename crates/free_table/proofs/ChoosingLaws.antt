@@ -17,10 +17,9 @@ use Rattle.layout.specs.RecordLaws.{records_pack}
 use Rattle.layout.specs.Distinct.{same_object}
 use Rattle.layout.specs.FactLaws.{same_object_lem}
 use Rattle.free_table.specs.declared.TargetRecord.{TargetRecord}
-use Rattle.free_table.specs.declared.Choice.{Choice}
 use Rattle.free_table.specs.Table.{no_record, target_ok, target_above, rising, table_ok}
 use Rattle.free_table.proofs.TableLaws.{first_rises, rises_first, rising_lower, target_most, target_rises}
-use Rattle.free_table.specs.Choosing.{next_object, raised, passing, chosen, raised_first, choice_of, with_more}
+use Rattle.free_table.specs.Choosing.{Choice, next_object, raised, passing, chosen, raised_first, choice_of, with_more}
 use Rattle.free_table.specs.Scanning.{choice_after}
 
 -- A table that is not bad has at most 64 records, and their targets rise.
@@ -65,22 +64,22 @@ more_chosen os more =
     let n : length os + length more ≡ length (os ++ more) = sym (length-append os more) in
     let x : sets (pack_objects os) (length os) more ≡ pack_objects (os ++ more) =
     sym (sets_append (replicate 16 no_object) 0 os more ∙ rw zero-add) in
-    λ i. record { count = n i; objects = x i }
+    λ i. record { count = n i; items = x i }
 
 -- Objects put after a choice, and more after these, are both put after it.
 pub more_twice : (choice : Choice) (os more : List Object) → with_more (with_more choice os) more ≡ with_more choice (os ++ more)
 more_twice choice os more =
     let n : choice.count + length os + length more ≡ choice.count + length (os ++ more) =
     omega (arith, length-append os more) in
-    let x : sets (sets choice.objects choice.count os) (choice.count + length os) more
-    ≡ sets choice.objects choice.count (os ++ more) = sym (sets_append choice.objects choice.count os more) in
-    λ i. record { count = n i; objects = x i }
+    let x : sets (sets choice.items choice.count os) (choice.count + length os) more
+    ≡ sets choice.items choice.count (os ++ more) = sym (sets_append choice.items choice.count os more) in
+    λ i. record { count = n i; items = x i }
 
 -- With no more objects a choice stays as it is.
 pub more_none : (choice : Choice) → with_more choice [] ≡ choice
 more_none choice =
     let n : choice.count + 0 ≡ choice.count = omega arith in
-    λ i. record { count = n i; objects = choice.objects }
+    λ i. record { count = n i; items = choice.items }
 
 module _ (ok : TargetRecord → Bool) where
   -- If none is to be chosen, or the table is empty, none is.

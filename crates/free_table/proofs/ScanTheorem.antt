@@ -13,11 +13,10 @@ use Rattle.layout.specs.Records.{no_object}
 use Rattle.layout.specs.Rows.{targets_of}
 use Rattle.refusals.specs.declared.Refusal.TheVariants as Refusal
 use Rattle.free_table.specs.declared.TargetRecord.{TargetRecord}
-use Rattle.free_table.specs.declared.Targets.{Targets}
 use Rattle.free_table.specs.declared.Scan.{Scan}
-use Rattle.free_table.specs.Table.{no_record, target_ok, rising, free_below, is_low, any_low, usable}
+use Rattle.free_table.specs.Table.{listed, no_record, target_ok, rising, free_below, is_low, any_low, usable}
 use Rattle.free_table.specs.Choosing.{chosen, choice_of, with_more}
-use Rattle.free_table.specs.Scanning.{listed, pack_targets, new_scan, with_refusal, eligible, low_by, lows_after, told, seen, scanned, any_set, some_low}
+use Rattle.free_table.specs.Scanning.{Targets, pack_targets, new_scan, with_refusal, eligible, low_by, lows_after, told, seen, scanned, any_set, some_low}
 use Rattle.free_table.proofs.TableLaws.{first_rises}
 use Rattle.free_table.proofs.ChoosingLaws.{more_chosen, more_none, chosen_nil, choice_more}
 use Rattle.free_table.proofs.ChosenLaws.{chosen_usable}

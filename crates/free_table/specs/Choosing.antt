@@ -6,7 +6,11 @@ use Rattle.layout.specs.declared.Object.{Object}
 use Rattle.layout.specs.Records.{pack_objects}
 use Rattle.layout.specs.Rows.{object_of}
 use Rattle.free_table.specs.declared.TargetRecord.{TargetRecord}
-use Rattle.free_table.specs.declared.Choice.{Choice}
+use Rattle.free_table.specs.declared.Few.{Few}
+
+-- Objects on chosen targets.
+abbrev pub Choice : Type 0
+Choice = Few Object
 
 -- The next object on a target.
 abbrev pub next_object : TargetRecord → Object
@@ -35,8 +39,8 @@ raised_first ok (suc s) (r ∷ rs) = cond (ok r) (raised r ∷ raised_first ok s
 
 -- Chosen objects, in the first places of a choice, the rest blank.
 abbrev pub choice_of : List Object → Choice
-choice_of os = record { count = length os; objects = pack_objects os }
+choice_of os = record { count = length os; items = pack_objects os }
 
 -- A choice with more objects after its own.
 abbrev pub with_more : Choice → List Object → Choice
-with_more choice os = record { count = choice.count + length os; objects = sets choice.objects choice.count os }
+with_more choice os = record { count = choice.count + length os; items = sets choice.items choice.count os }

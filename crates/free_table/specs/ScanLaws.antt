@@ -12,11 +12,11 @@ use Rattle.layout.specs.Rows.{target_of}
 use Rattle.layout.specs.Distinct.{same_object}
 use Rattle.layout.specs.FactLaws.{same_object_lem}
 use Rattle.free_table.specs.declared.TargetRecord.{TargetRecord}
-use Rattle.free_table.specs.declared.Choice.{Choice}
 use Rattle.free_table.specs.declared.Scan.{Scan}
-use Rattle.free_table.specs.Table.{no_record, target_ok}
+use Rattle.free_table.specs.Table.{listed, no_record, target_ok}
+use Rattle.free_table.specs.Choosing.{Choice}
 use Rattle.free_table.specs.Raising.{past_last}
-use Rattle.free_table.specs.Scanning.{listed, eligible, low_by, lows_after, choice_after, told, seen, scanned, Fit}
+use Rattle.free_table.specs.Scanning.{eligible, low_by, lows_after, choice_after, told, seen, scanned, Fit}
 
 -- What a record says of one target more.
 lows_suc : (of : ℕ) (below : Bool) (ts : List ℕ) (low : List Bool) (i : ℕ) → i < length ts → i < length low

@@ -6,19 +6,18 @@ use Rattle.lists.specs.Tests.{after, any_of}
 use Rattle.lists.specs.Counting.{elem}
 use Rattle.refusals.specs.declared.Refusal.{Refusal}
 use Rattle.free_table.specs.declared.TargetRecord.{TargetRecord}
-use Rattle.free_table.specs.declared.Choice.{Choice}
-use Rattle.free_table.specs.declared.Targets.{Targets}
+use Rattle.free_table.specs.declared.Few.{Few}
 use Rattle.free_table.specs.declared.Scan.{Scan}
-use Rattle.free_table.specs.Table.{target_ok, free_below, usable}
-use Rattle.free_table.specs.Choosing.{next_object, choice_of, with_more}
+use Rattle.free_table.specs.Table.{listed, target_ok, free_below, usable}
+use Rattle.free_table.specs.Choosing.{Choice, next_object, choice_of, with_more}
 
--- The targets of a list of them: the first places of its array, as many as its count.
-abbrev pub listed : Targets → List ℕ
-listed t = take t.count t.targets
+-- Up to 16 targets.
+abbrev pub Targets : Type 0
+Targets = Few ℕ
 
 -- Targets in the first places of an array, the rest 0.
 unfoldable pub pack_targets : List ℕ → Targets
-pack_targets ts = record { count = length ts; targets = sets (replicate 16 0) 0 ts }
+pack_targets ts = record { count = length ts; items = sets (replicate 16 0) 0 ts }
 
 -- The scan of a table of so many records, before the first of them: nothing refuses the call, every target that is asked for
 -- is low, as one that "isn't in the table", none is chosen, and any target may be first.

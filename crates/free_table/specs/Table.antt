@@ -1,9 +1,14 @@
 -- The free table: its records, refusal 15, and which targets are low and which usable. What is in quotes is document
 -- 01's.
-use Rattle.std.specs.Prelude.{ℕ, ◌+◌, List, [], ◌∷◌, Bool, true, not, cond, ◌&&◌, ltb, leb, eqb, length}
+use Rattle.std.specs.Prelude.{ℕ, ◌+◌, List, [], ◌∷◌, Bool, true, not, cond, ◌&&◌, ltb, leb, eqb, length, take}
 use Rattle.lists.specs.Tests.{every, along, any_of}
 use Rattle.layout.specs.declared.Object.{Object}
 use Rattle.free_table.specs.declared.TargetRecord.{TargetRecord}
+use Rattle.free_table.specs.declared.Few.{Few}
+
+-- Up to 16 values as a list: the first places of the array, as many as the count.
+abbrev pub listed : {A : Type 0} → Few A → List A
+listed x = take x.count x.items
 
 -- What is said to be past a table's end, and is in the unused places of an array of records.
 abbrev pub no_record : TargetRecord

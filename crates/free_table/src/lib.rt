@@ -62,24 +62,30 @@ impl TargetRecord {
     }
 }
 
-// The objects on chosen targets: in the first `count` places, the rest blank.
+// Up to 16 values, in the first `count` places.
 #[derive(Clone, Copy)]
-pub struct Choice {
+pub struct Few<T> {
     pub count: usize,
-    pub objects: [Object; 16],
+    pub items: [T; 16],
 }
 
-impl Choice {
-    ghost use Rattle.std.specs.Prelude.{take};
-    ghost use Rattle.free_table.specs.Scanning.{choice_after};
+impl<T: Copy> Few<T> {
+    ghost use Rattle.free_table.specs.Table.{listed};
 
-    // The chosen objects.
-    pub fn objects(&self) -> &[Object]
+    // The values.
+    pub fn items(&self) -> &[T]
         requires { self.now.count ≤ 16 }
-        ensures { result.now ≡ take self.now.count self.now.objects }
+        ensures { result.now ≡ listed self.now }
     {
-        &self.objects[..self.count]
+        &self.items[..self.count]
     }
+}
+
+// The objects on chosen targets. The places after them are blank.
+pub type Choice = Few<Object>;
+
+impl Few<Object> {
+    ghost use Rattle.free_table.specs.Scanning.{choice_after};
 
     // The choice of at most s objects, with the next object of the record if the record may be chosen and fewer are.
     fn after(self, s: usize, may: bool, r: TargetRecord) -> Choice
@@ -88,7 +94,7 @@ impl Choice {
     {
         if self.count < s && may {
             let mut more = self;
-            more.objects[self.count] = r.next_object();
+            more.items[self.count] = r.next_object();
             more.count += 1;
             return more;
         }
@@ -96,12 +102,8 @@ impl Choice {
     }
 }
 
-// Up to 16 targets, in the first `count` places.
-#[derive(Clone, Copy)]
-pub struct Targets {
-    pub count: usize,
-    pub targets: [u32; 16],
-}
+// Up to 16 targets.
+pub type Targets = Few<u32>;
 
 // A scan of the free table, record by record: what a step of growth asks of it, and what is known after some records.
 #[derive(Clone, Copy)]
@@ -129,13 +131,13 @@ pub struct Scan {
 // No targets.
 pub const NO_TARGETS: Targets = Targets {
     count: 0,
-    targets: [0; 16],
+    items: [0; 16],
 };
 
 // Nothing is chosen.
 pub const NO_CHOICE: Choice = Choice {
     count: 0,
-    objects: [NO_OBJECT; 16],
+    items: [NO_OBJECT; 16],
 };
 
 // What is in the unused places of an array of records.
@@ -193,7 +195,7 @@ pub fn choose(table: &[TargetRecord], mark: u64, s: usize) -> Choice
     requires { (s ≤ 16) × (table_ok table.now ≡ true) }
     ensures { (result ≡ choice_of (chosen (usable mark) s table.now))
         × (result.count ≤ s)
-        × ((get_or result.objects 0 no_object).target ≤ 65534) }
+        × ((get_or result.items 0 no_object).target ≤ 65534) }
 {
     let mut choice = NO_CHOICE;
     for r in table {

@@ -5,22 +5,12 @@ ghost use Rattle.lists.specs.Counting.{elem};
 ghost use Rattle.layout.specs.Records.{records_of};
 ghost use Rattle.layout.specs.Rows.{targets_of};
 ghost use Rattle.free_table.specs.Table.{target_ok};
-ghost use Rattle.free_table.specs.Scanning.{pack_targets, listed, new_scan, refused_scan, eligible, lows_after};
+ghost use Rattle.free_table.specs.Scanning.{pack_targets, new_scan, refused_scan, eligible, lows_after};
 ghost use Rattle.free_table.specs.Scanning.{told, seen, Fit, any_set};
 
 use crate::{NO_CHOICE, NO_TARGETS, Scan, TargetRecord, Targets};
 use layout::Component;
 use refusals::Refusal;
-
-impl Targets {
-    // The targets.
-    pub fn targets(&self) -> &[u32]
-        requires { self.now.count ≤ 16 }
-        ensures { result.now ≡ listed self.now }
-    {
-        &self.targets[..self.count]
-    }
-}
 
 // The targets of the object records of a component.
 pub fn targets_of(c: Component) -> Targets
@@ -33,7 +23,7 @@ pub fn targets_of(c: Component) -> Targets
     }
     Targets {
         count: objects.len(),
-        targets,
+        items: targets,
     }
 }
 
@@ -105,8 +95,8 @@ fn tell(s: Scan, r: TargetRecord) -> Scan
     ensures { result ≡ told s r }
 {
     let mut low = s.low;
-    tell_lows(&mut low, s.asked.targets(), r.target, r.free_below(s.mark));
-    let may = is_eligible(s.mark, s.left_out.targets(), r);
+    tell_lows(&mut low, s.asked.items(), r.target, r.free_below(s.mark));
+    let may = is_eligible(s.mark, s.left_out.items(), r);
     Scan {
         low,
         choice: s.choice.after(s.wanted, may, r),

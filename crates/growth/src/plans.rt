@@ -82,7 +82,7 @@ impl MarkedTable<'_> {
             return Err(Refusal::TooFewTargets);
         }
         Ok(Change {
-            made: components::init_with(p.made, choice.objects),
+            made: components::init_with(p.made, choice.items),
             chosen: s,
             ..p
         })

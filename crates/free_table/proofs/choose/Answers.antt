@@ -6,9 +6,8 @@ use Rattle.std.proofs.Math.Nat.{sub-zero}
 use Rattle.std.proofs.lemmas.List.{drop_more}
 use Rattle.layout.specs.Records.{no_object, pack_objects}
 use Rattle.free_table.specs.declared.TargetRecord.{TargetRecord}
-use Rattle.free_table.specs.declared.Choice.{Choice}
 use Rattle.free_table.specs.Table.{no_record, usable}
-use Rattle.free_table.specs.Choosing.{chosen, choice_of, with_more}
+use Rattle.free_table.specs.Choosing.{Choice, chosen, choice_of, with_more}
 use Rattle.free_table.specs.Scanning.{choice_after}
 use Rattle.free_table.specs.ScanLaws.{choice_few}
 use Rattle.free_table.proofs.ChoosingLaws.{table_facts, chosen_nil, chosen_few, chosen_targets, more_chosen, more_none, choice_more, first_packed}
@@ -58,5 +57,5 @@ returns c =
     let t = chosen_targets ok 0 a.s a.table.now (table_facts a.table.now c.requires.1).1 in (
       e,
       c.loop-r.invariant.few,
-      rw (ap (λ (y : Choice). (get_or y.objects 0 no_object).target) e) (first_packed os 65534 (omega arith) t),
+      rw (ap (λ (y : Choice). (get_or y.items 0 no_object).target) e) (first_packed os 65534 (omega arith) t),
     )

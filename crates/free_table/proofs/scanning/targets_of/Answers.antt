@@ -20,4 +20,4 @@ returns c =
     let x : c.loop-i.targets ≡ sets (replicate 16 0) 0 (targets_of os) =
     sym (ap (λ (l : List Object). sets (replicate 16 0) 0 (targets_of l)) (sym given.ensures) ∙ c.loop-i.invariant
     ∙ ap (λ (l : List Object). sets c.loop-i.targets c.loop-i.i (targets_of l)) none) in
-    λ i. record { count = m i; targets = x i }
+    λ i. record { count = m i; items = x i }

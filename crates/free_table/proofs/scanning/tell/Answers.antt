@@ -8,8 +8,8 @@ returns c =
     rw (
       c.after.ensures,
       c.is_eligible-may.ensures,
-      c.targets-2.ensures,
+      c.items-2.ensures,
       c.tell_lows.ensures,
-      c.targets.ensures,
+      c.items.ensures,
       c.free_below.ensures,
     )

@@ -1,9 +1,8 @@
 -- `growth::plans::MarkedTable::choosing` meets its contract: there are as many chosen targets as stripes, or not.
 use Rattle.std.proofs.Common.{◌≡◌, length, sym, ap, ◌∙◌, eq-eqb, ne_eqb}
 use Rattle.layout.specs.Records.{pack_objects}
-use Rattle.free_table.specs.declared.Choice.{Choice}
 use Rattle.free_table.specs.Table.{usable}
-use Rattle.free_table.specs.Choosing.{chosen}
+use Rattle.free_table.specs.Choosing.{Choice, chosen}
 use Rattle.growth.specs.Plans.{choosing_plan}
 use Rattle.growth.proofs.plans.MarkedTable.choosing.Goals as goal
 
@@ -25,5 +24,5 @@ returns c =
     let x = c.choose-choice in
     let os = chosen (usable a.self.mark) s a.self.table.now in
     let n : length os ≡ s = sym (ap (λ (y : Choice). y.count) x.ensures.0) ∙ c.if-choice-s.false in
-    let o : x.result.objects ≡ pack_objects os = ap (λ (y : Choice). y.objects) x.ensures.0 in
+    let o : x.result.items ≡ pack_objects os = ap (λ (y : Choice). y.items) x.ensures.0 in
     rw (c.init_with.ensures, o, eq-eqb (length os) s n, n)

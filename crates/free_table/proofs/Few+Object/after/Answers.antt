@@ -1,7 +1,7 @@
--- `free_table::Choice::after` meets its contract, by its two tests.
+-- `free_table::Few<Object>::after` meets its contract, by its two tests.
 use Rattle.std.proofs.Common.{inl, inr, arith, lt-ltb, le-ltb}
 use Rattle.free_table.specs.Scanning.{choice_after}
-use Rattle.free_table.proofs.Choice.after.Goals as goal
+use Rattle.free_table.proofs.Few+Object.after.Goals as goal
 
 pub returns-then-may : goal.returns-then-may
 unfolding choice_after

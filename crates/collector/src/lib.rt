@@ -115,6 +115,7 @@ fn take_walked(c: &mut Collector, page: &[u8], places: &[usize; 16]) -> Result<A
 }
 
 // Takes a page into a collector that is known to keep the rules: 2 to 8 are asked.
+#[tactic(auto, unfolding(crate::specs::Taking::open_refusal, crate::specs::Taking::settled))]
 pub fn take_next(c: &mut Collector, page: &[u8]) -> Result<Answer, Refusal>
     requires { collector_ok c.old ≡ true }
     ensures { take_says result c.new ≡ open_in c.old page.now }
@@ -131,6 +132,7 @@ pub fn take_next(c: &mut Collector, page: &[u8]) -> Result<Answer, Refusal>
 
 // Takes a page into the collector. It answers that more pages are wanted, or that the collector is complete; refused by
 // 1 to 8, and then the collector stays as it was.
+#[tactic(auto, unfolding(crate::specs::Taking::page_refusal, crate::specs::Taking::settled))]
 pub fn take_page(c: &mut Collector, page: &[u8]) -> Result<Answer, Refusal>
     ensures { take_says result c.new ≡ page_in c.old page.now }
 {

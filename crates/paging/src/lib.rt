@@ -94,6 +94,7 @@ pub fn write_page(l: Layout, number: u64, buffer: &mut [u8]) -> Result<usize, Re
 
 // Writes page `number` of a layout into the first bytes of the buffer, by the same rules; refused too if the layout is
 // not valid.
+#[tactic(auto, unfolding(crate::specs::Paging::out_refusal, crate::specs::Paging::out_answer, crate::specs::Paging::out_buffer))]
 pub fn page_out(l: Layout, number: u64, buffer: &mut [u8]) -> Result<usize, Refusal>
     ensures { let refusal = out_refusal l number (length buffer.old) in
         (numbered result ≡ out_answer refusal (written_page l number))

@@ -6,7 +6,7 @@ ghost use Rattle.layout.specs.Records.{packed};
 ghost use Rattle.page.specs.Form.{component_end};
 ghost use Rattle.page.specs.Content.{component_at, head_of, components_of};
 ghost use Rattle.page.specs.Walked.{Walked};
-ghost use Rattle.collector.specs.Collector.{new_collector, gathered, counts_agree, collector_ok};
+ghost use Rattle.collector.specs.Collector.{new_collector, gathered, collector_ok};
 ghost use Rattle.collector.specs.Taking.{take_says, is_next, joined, content_in, open_in, page_in};
 ghost use Rattle.collector.specs.Giving.{layout_says, layout_out};
 
@@ -43,13 +43,19 @@ pub fn new_collector() -> Collector
     }
 }
 
-// Do the numbers of a collector agree: no pages exactly if no components, then not complete, and never more pages than
-// components?
-#[tactic(auto, unfolding(crate::specs::Collector::counts_agree))]
-fn counts_agree(pages: usize, complete: bool, components: usize) -> bool
-    ensures { result ≡ counts_agree pages complete components }
-{
-    ((pages == 0) == (components == 0)) && !(complete && pages == 0) && pages <= components
+impl Collector {
+    ghost use Rattle.collector.specs.Collector.{counts_agree};
+
+    // Do its numbers agree: no pages exactly if no components, then not complete, and never more pages than components?
+    #[tactic(auto, unfolding(crate::specs::Collector::counts_agree))]
+    fn counts_agree(&self) -> bool
+        ensures { result ≡ counts_agree self.now.pages self.now.layout.complete self.now.layout.count }
+    {
+        let count = self.layout.count;
+        ((self.pages == 0) == (count == 0))
+            && !(self.layout.complete && self.pages == 0)
+            && self.pages <= count
+    }
 }
 
 // Does refusal 1 not apply to the collector?
@@ -57,9 +63,7 @@ pub fn is_sound(c: Collector) -> bool
     ensures { result ≡ collector_ok c }
 {
     let l = c.layout;
-    l.count <= 16
-        && counts_agree(c.pages, l.complete, l.count)
-        && layout::check_rules(l, !l.complete).is_ok()
+    l.count <= 16 && c.counts_agree() && layout::check_rules(l, !l.complete).is_ok()
 }
 
 // Refusal 4 does not apply: the page number is the next after the pages taken, and the generation that of page 0.
@@ -67,7 +71,7 @@ pub fn is_sound(c: Collector) -> bool
 pub fn is_next(pages: usize, generation: u32, h: Head) -> bool
     ensures { result ≡ is_next pages generation h }
 {
-    h.number as usize == pages && (pages == 0 || h.generation == generation)
+    usize::from(h.number) == pages && (pages == 0 || h.generation == generation)
 }
 
 // The layout with the components at the places of the bytes after its own. Its generation and whether it is complete are
@@ -99,7 +103,7 @@ fn take_walked(c: &mut Collector, page: &[u8], places: &[usize; 16]) -> Result<A
         return Err(Refusal::PageNumber);
     }
     let from = c.layout.count;
-    let n = head.count as usize;
+    let n = usize::from(head.count);
     if 16 < from + n {
         return Err(Refusal::Over16);
     }

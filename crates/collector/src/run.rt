@@ -31,7 +31,7 @@ fn next_page(s: &[u8]) -> Result<(&[u8], &[u8]), Refusal>
     if s.len() < 2 {
         return Err(Refusal::Form);
     }
-    let length = u16::read_at(s, 0) as usize;
+    let length = usize::from(u16::read_at(s, 0));
     let rest = &s[2..];
     if 512 < length || rest.len() < length {
         return Err(Refusal::Form);

@@ -40,7 +40,7 @@ pub fn record_count(s: &[u8], at: usize) -> usize
     ensures { (result ≡ records_at s.now at) × (result < 65536) }
 {
     if flags::is_set(u16::read_at(s, at + 2), 0) {
-        u16::read_at(s, at + 6) as usize
+        usize::from(u16::read_at(s, at + 6))
     } else {
         0
     }
@@ -107,8 +107,8 @@ pub fn walk(
     if limit < 16 || !head_form(s) {
         return None;
     }
-    let count = u16::read_at(s, 6) as usize;
-    let mut at: usize = 16;
+    let count = usize::from(u16::read_at(s, 6));
+    let mut at = 16;
     for i in 0..count {
         let end = end_of_component(s, at, limit)?;
         note(places, n + i, base + at);

@@ -23,12 +23,12 @@ pub returns-then-from-n-gt16 : goal.returns-then-from-n-gt16
 returns-then-from-n-gt16 c =
     let a = c.args in
     refused_over a.c.now a.page.now a.places.now c.read-head.result c.requires.0 c.requires.2 c.read-head.ensures (cc)
-    c.if-from-n-gt16.true
+    (omega arith)
 
 pub with_components-next-requires : goal.with_components-next-requires
 with_components-next-requires c =
     let a = c.args in
-    let n = c.read-head.result.count in
+    let n = c.from-n.result in
     let w = c.requires.2 in
     let l = length-take n a.places.now in
     let m = count_is a.page.now c.read-head.result c.read-head.ensures in (
@@ -42,7 +42,7 @@ pub check_rules_from-requires : goal.check_rules_from-requires
 check_rules_from-requires c =
     let a = c.args in
     known a.c.now a.page.now a.places.now c.read-head.result c.requires.0 c.requires.2 c.read-head.ensures (cc)
-    c.if-from-n-gt16.false c.with_components-next.ensures.1 _ c.with_components-next.ensures.0 c.requires.1
+    (omega arith) c.with_components-next.ensures.1 _ (rw c.from-n.ensures at c.with_components-next.ensures.0) c.requires.1
 
 pub returns-in_err-check_rules_from : goal.returns-in_err-check_rules_from
 returns-in_err-check_rules_from c =
@@ -51,7 +51,7 @@ returns-in_err-check_rules_from c =
     let e = c.in_err-check_rules_from.field-0.0 in
     rw (p.1, p.2)
     (refused_by a.c.now a.page.now a.places.now c.read-head.result c.requires.0 c.requires.2 c.read-head.ensures (cc)
-    c.if-from-n-gt16.false c.with_components-next.ensures.1 _ c.with_components-next.ensures.0
+    (omega arith) c.with_components-next.ensures.1 _ (rw c.from-n.ensures at c.with_components-next.ensures.0)
     (number_of e) c.in_err-check_rules_from.ensures (number_pos e))
 
 pub overflow_add-c : goal.overflow_add-c
@@ -64,11 +64,11 @@ returns-then-head c =
     let a = c.args in
     rw c.if-head.true at
     (taken a.c.now a.page.now a.places.now c.read-head.result c.requires.0 c.requires.2 c.read-head.ensures (cc)
-    c.if-from-n-gt16.false c.with_components-next.ensures.1 _ c.with_components-next.ensures.0 c.in_ok-check_rules_from.ensures)
+    (omega arith) c.with_components-next.ensures.1 _ (rw c.from-n.ensures at c.with_components-next.ensures.0) c.in_ok-check_rules_from.ensures)
 
 pub returns-else-head : goal.returns-else-head
 returns-else-head c =
     let a = c.args in
     rw c.if-head.false at
     (taken a.c.now a.page.now a.places.now c.read-head.result c.requires.0 c.requires.2 c.read-head.ensures (cc)
-    c.if-from-n-gt16.false c.with_components-next.ensures.1 _ c.with_components-next.ensures.0 c.in_ok-check_rules_from.ensures)
+    (omega arith) c.with_components-next.ensures.1 _ (rw c.from-n.ensures at c.with_components-next.ensures.0) c.in_ok-check_rules_from.ensures)

@@ -7,6 +7,7 @@ use borrow.Author.Rules.{rules}
 use borrow.Author.Tests.{tests}
 use Rattle.std.proofs.Common.{drop-drop}
 use Rattle.std.proofs.lemmas.List.{take_rest}
+use Rattle.bytes_le.specs.Numbers.{u16_at}
 use Rattle.collector.proofs.CutLaws.{listed_ended, listed_cut_lem, listed_long, listed_short, listed_next}
 use Rattle.collector.proofs.run.next_page.Goals as goal
 use Rattle.collector.proofs.run.next_page.Goals.{then-length-gt512-via-then-length-gt512, then-length-gt512-via-else-length-gt512+then-rest-length}
@@ -25,7 +26,7 @@ pub returns-then-length-gt512 : goal.returns-then-length-gt512
 returns-then-length-gt512 c =
     let s = c.args.s.now in
     let n : 0 < length s = omega arith in
-    let w = c.read_at-length.ensures in
+    let w : c.from-length.result ≡ u16_at s 0 = cc in
     elim c.then-length-gt512.branch [
       | then-length-gt512-via-then-length-gt512 w ↦ rw (listed_long s n (omega arith) (omega arith))
       | then-length-gt512-via-else-length-gt512+then-rest-length w ↦
@@ -36,6 +37,6 @@ pub returns : goal.returns
 returns c =
     let s = c.args.s.now in
     let n : 0 < length s = omega arith in
-    let e = c.read_at-length.ensures in
+    let e : c.from-length.result ≡ u16_at s 0 = cc in
     let l = listed_next s n (omega arith) (omega arith) (omega arith) in
     rw (l, c.split_at.ensures.front, c.split_at.ensures.back, take_rest s 2, drop-drop, e)

@@ -6,7 +6,7 @@ use native.Mathlib.Omega.{arith}
 use native.Mathlib.Nat.{sub-zero, add-zero}
 use lib.ListN.{length-set}
 use lib.Seq.{take-set-le}
-use Rattle.page.specs.Form.{head_form, form_by}
+use Rattle.page.specs.Form.{counted, head_form, form_by}
 use Rattle.page.specs.FormLaws.{component_within}
 use Rattle.page.proofs.Walking.{form_short, form_headless, form_start, form_turn, ended, end_turn, places_turn, walks_faulty}
 use Rattle.page.proofs.form.walk.Goals as goal
@@ -27,14 +27,15 @@ pub loop-i-init : goal.loop-i-init
 loop-i-init c =
     let a = c.args in
     let e : head_form a.s.now ≡ true = cc in
+    let m : c.from-count.result ≡ counted a.s.now = cc in
     record {
       begun = omega arith;
       within = omega arith;
       positions = c.requires.4;
-      formed = rw c.read_at-count.ensures (form_start a.limit a.s.now e (omega arith));
-      ends = rw (c.read_at-count.ensures, sub-zero);
+      formed = rw m (form_start a.limit a.s.now e (omega arith));
+      ends = rw (m, sub-zero);
       kept = refl;
-      stored = rw (c.read_at-count.ensures, sub-zero, add-zero);
+      stored = rw (m, sub-zero, add-zero);
     }
 
 pub loop-i-preserved : goal.loop-i-preserved
@@ -42,7 +43,7 @@ loop-i-preserved c =
     let a = c.args in
     let s = a.s.now in
     let p = c.loop-i in
-    let n = c.read_at-count.result in
+    let n = c.from-count.result in
     let k = p.invariant in
     let e = ended _ _ c.in_ok-end.end c.in_ok-end.ensures in
     record {

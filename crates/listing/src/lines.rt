@@ -15,8 +15,8 @@ fn push_head(text: &mut Text, generation: u32, count: usize)
     ensures upper_bound { length text.new.bytes ≤ length text.old.bytes + 144 }
 {
     text.push_str("layout ");
-    text::push_number(text, u64::from(generation), " components ");
-    text::push_number(text, count as u64, "\n");
+    text::push_number(text, generation, " components ");
+    text::push_number(text, count, "\n");
 }
 
 // Appends the line of a refusal.
@@ -25,8 +25,8 @@ pub(crate) fn push_refused(text: &mut Text, refusal: Refusal, page: usize)
     ensures { text.new.bytes ≡ text.old.bytes ++ refused_line (number_of refusal) page }
 {
     text.push_str("refused ");
-    text::push_number(text, u64::from(refusal.number()), " page ");
-    text::push_number(text, page as u64, "\n");
+    text::push_number(text, refusal.number(), " page ");
+    text::push_number(text, page, "\n");
 }
 
 // The size that a component's line has: of an extension, its extension size.
@@ -46,13 +46,13 @@ fn push_component(text: &mut Text, c: &Component)
     ensures value { text.new.bytes ≡ text.old.bytes ++ component_line c.now }
     ensures upper_bound { length text.new.bytes ≤ length text.old.bytes + 144 }
 {
-    text::push_number(text, u64::from(c.id), " ");
+    text::push_number(text, c.id, " ");
     text::push_number(text, c.begin, " ");
     text::push_end(text, c.end, " ");
     text::push_word(text, text::kind_word(c), " ");
-    text::push_number(text, u64::from(c.stripe_count), " ");
+    text::push_number(text, c.stripe_count, " ");
     text::push_number(text, size_of(c), " ");
-    text::push_signed(text, c.first_target, "\n");
+    text::push_number(text, c.first_target, "\n");
 }
 
 // Appends the listing of a layout to an empty text: the first line, and a line for each component.

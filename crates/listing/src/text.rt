@@ -1,8 +1,9 @@
 // The text of a listing, and the words that are put at its end, each with what comes after it.
 ghost use Rattle.std.specs.Prelude.{◌≡◌, ◌++◌, ◌+◌, ◌≤◌, length};
-ghost use Rattle.listing.specs.Listing.{decimal, signed, end_word, kind_word};
+ghost use Rattle.listing.specs.Listing.{end_word, kind_word};
 
 use arrayvec::ArrayString;
+use itoa::{Buffer, Integer};
 use layout::Component;
 
 // The most bytes that a listing has: it has at most 17 lines, of at most 144 bytes.
@@ -25,23 +26,13 @@ pub(crate) fn push_word(text: &mut Text, word: &str, after: &str)
 }
 
 // Appends a number in decimal.
-pub(crate) fn push_number(text: &mut Text, n: u64, after: &str)
-    requires { length text.old.bytes + 20 + length after.now ≤ 2448 }
-    ensures value { text.new.bytes ≡ text.old.bytes ++ (decimal n ++ after.now) }
-    ensures upper_bound { length text.new.bytes ≤ length text.old.bytes + 20 + length after.now }
+pub(crate) fn push_number<N: Integer>(text: &mut Text, n: N, after: &str)
+    requires { length text.old.bytes + N.MAX_STR_LEN + length after.now ≤ 2448 }
+    ensures value { text.new.bytes ≡ text.old.bytes ++ (N.text n ++ after.now) }
+    ensures upper_bound { length text.new.bytes ≤ length text.old.bytes + N.MAX_STR_LEN + length after.now }
 {
-    let mut digits = itoa::Buffer::new();
+    let mut digits = Buffer::new();
     push_word(text, digits.format(n), after);
-}
-
-// Appends a signed number in decimal.
-pub(crate) fn push_signed(text: &mut Text, z: i32, after: &str)
-    requires { length text.old.bytes + 11 + length after.now ≤ 2448 }
-    ensures value { text.new.bytes ≡ text.old.bytes ++ (signed z ++ after.now) }
-    ensures upper_bound { length text.new.bytes ≤ length text.old.bytes + 11 + length after.now }
-{
-    let mut digits = itoa::Buffer::new();
-    push_word(text, digits.format(z), after);
 }
 
 // Appends where an extent ends.

@@ -16,7 +16,7 @@ use Rattle.in_place.specs.Places.{components_at, Within}
 use Rattle.in_place.specs.Joining.{new_rule_broken}
 use Rattle.placed_run.specs.declared.Progress.{Progress}
 use Rattle.placed_run.specs.Placing.{Placed, next_refusal, placed_next}
-use Rattle.placed_run.specs.Progress.{placed_of, InRange, numbered}
+use Rattle.placed_run.specs.Progress.{placed_of, InRange}
 use Rattle.placed_run.specs.ShiftLaws.{records_shift}
 use Rattle.placed_run.proofs.PlacingLaws.{next_refused}
 
@@ -36,7 +36,7 @@ module _ (s : List ℕ) (p : Progress) (places : List ℕ) (k : InRange s p plac
   rest = drop p.at s
 
   abbrev so_far : Placed
-  so_far = placed_of p places
+  so_far = placed_of 0 p places
 
   -- The number: no bytes are left,
   pub next_1 : length s ≤ p.at → next_refusal s so_far ≡ 1
@@ -76,8 +76,8 @@ module _ (s : List ℕ) (p : Progress) (places : List ℕ) (k : InRange s p plac
 
   -- The page is refused, and the first places are as they were.
   module _ (after : List ℕ) (same : take p.count after ≡ take p.count places) (room : length after ≡ 16) where
-    pub kept_refused : (n : ℕ) → InRange s (numbered n p) after
-    kept_refused n =
+    pub kept_refused : InRange s p after
+    kept_refused =
         record {
           reached = k.reached;
           pages = k.pages;
@@ -87,7 +87,7 @@ module _ (s : List ℕ) (p : Progress) (places : List ℕ) (k : InRange s p plac
         }
 
     pub says_refused : (n : ℕ) → next_refusal s so_far ≡ n → 0 < n
-        → placed_of (numbered n p) after ≡ placed_next s so_far
+        → placed_of n p after ≡ placed_next s so_far
     says_refused n e h = rw (next_refused s so_far n e h, same)
 
   -- The page has its form, and its places are stored after the others.

@@ -21,8 +21,8 @@ use Rattle.page.specs.Form.{counted, page_places, page_end, form_by}
 use Rattle.page.specs.Content.{component_at, head_of, components_of}
 use Rattle.page.specs.FormLaws.{length_components, some_components}
 use Rattle.collector.specs.declared.Collector.{Collector}
-use Rattle.collector.specs.declared.Reading.{Reading}
-use Rattle.collector.specs.declared.Taken.{Taken}
+use Rattle.collector.specs.Runs.{Reading}
+use Rattle.collector.specs.Taking.{Taken}
 use Rattle.collector.specs.Collector.{new_collector, gathered}
 use Rattle.collector.specs.Taking.{number_of, is_next, added, content_refusal, settled, content_in, open_in}
 use Rattle.collector.specs.TakingLaws.{settled_number}

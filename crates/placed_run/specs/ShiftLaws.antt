@@ -1,6 +1,6 @@
 -- What is at a place of the bytes after a position is that much further in all bytes.
-use Rattle.std.specs.Prelude.{ℕ, ◌+◌, ◌-◌, ◌≡◌, List, map, length, take, drop}
-use Rattle.std.proofs.Common.{arith, length-drop, take_all, drop-drop}
+use Rattle.std.specs.Prelude.{ℕ, ◌+◌, ◌≡◌, List, map, drop}
+use Rattle.std.proofs.Common.{drop-drop}
 use Rattle.std.proofs.lemmas.Simd.{map-map}
 use Rattle.page.specs.Form.{records_at, counted, places_from, page_places}
 use Rattle.page.specs.Content.{component_at, components_of}
@@ -13,10 +13,6 @@ module _ (s : List ℕ) (base at : ℕ) where
 
   pub component_shift : component_at s (base + at) ≡ component_at (drop base s) at
   component_shift = rw (component_from s (base + at), component_from (drop base s) at, drop-drop at base s)
-
--- The part of the bytes from a position to their end.
-pub part_rest : (s : List ℕ) (at : ℕ) → take (length s - at) (drop at s) ≡ drop at s
-part_rest s at = take_all (length s - at) (drop at s) (omega (arith, length-drop at s))
 
 -- Components at places.
 components_shift : (s : List ℕ) (base : ℕ) (ps : List ℕ)

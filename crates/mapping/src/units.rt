@@ -28,7 +28,11 @@ fn put_piece(room: &mut [u64], at: usize, p: Piece)
     requires { at + 5 ≤ length room.old }
     ensures { room.new ≡ sets room.old at (piece_numbers p) }
 {
-    room[at..at + 5].copy_from_slice(&[p.offset, p.length, p.id, p.stripe, p.byte]);
+    room[at] = p.offset;
+    room[at + 1] = p.length;
+    room[at + 2] = p.id;
+    room[at + 3] = p.stripe;
+    room[at + 4] = p.byte;
 }
 
 // Writes the pieces of a component's bytes from `from` to `to`, which is not among them, from place `at` on, and gives

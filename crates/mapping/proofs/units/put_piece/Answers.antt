@@ -1,14 +1,20 @@
--- `mapping::units::put_piece` meets its contract: the five numbers are in the place of five numbers of the room.
-use Rattle.std.proofs.Common.{◌∙◌, ◌+◌, ◌-◌, sym, refl, arith}
-use Rattle.std.proofs.lemmas.List.Edits.{sets-eq}
-use Rattle.std.proofs.lemmas.Slice.{put_mid-paste}
-use Rattle.mapping.specs.Cutting.{piece_numbers}
+-- `mapping::units::put_piece` meets its contract: its five stores are those of the five numbers, one after the other.
+use native.Mathlib.Numerals.{add-one, add-two, add-three, add-four}
+use native.Mathlib.Omega.{arith}
+use lib.ListN.{length-set}
 use Rattle.mapping.proofs.units.put_piece.Goals as goal
 
 pub returns : goal.returns
-returns c =
-    let a = c.args in
-    let five = piece_numbers a.p in
-    put_mid-paste a.at (a.at + 5 - a.at) a.room.now c.copy_from_slice.new.self five 5 c.copy_from_slice.ensures.after
-    (omega arith) refl
-    ∙ sym (sets-eq five a.room.now a.at (omega arith))
+returns c = rw (add-one, add-two, add-three, add-four)
+
+pub bounds-room-at-2 : goal.bounds-room-at-2
+bounds-room-at-2 c = simp length-set (omega arith)
+
+pub bounds-room-at-3 : goal.bounds-room-at-3
+bounds-room-at-3 c = simp length-set (omega arith)
+
+pub bounds-room-at-4 : goal.bounds-room-at-4
+bounds-room-at-4 c = simp length-set (omega arith)
+
+pub bounds-room-at-5 : goal.bounds-room-at-5
+bounds-room-at-5 c = simp length-set (omega arith)

@@ -91,7 +91,8 @@ fn differ<const N: usize>(s: &[u8], places: &[usize]) -> bool
     layout::distinct::object_repeat(&targets[..all], &numbers[..all], &mut keys[..all], 0).is_none()
 }
 
-// Do the object records of the components at the places differ?
+// Do the object records of the components at the places differ? Fewer than two do.
+#[tactic(auto, using(crate::proofs::Scanned::fresh_few))]
 fn objects_differ(s: &[u8], places: &[usize]) -> bool
     requires { (length places.now ≤ 16) × Within s.now (length places.now) places.now }
     ensures { result ≡ every (object_tests (components_at s.now places.now)) }

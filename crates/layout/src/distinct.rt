@@ -1,6 +1,6 @@
 // Distinctness (refusal 8): ids, and object records anywhere in the layout. The object records are gathered once into
-// two dense rows, of targets and of numbers, and the rows are scanned. A third row has a short
-// key of each record: a record whose key equals none before it is asked of none.
+// two dense rows, of targets and of numbers, and the rows are scanned. A third row has a short key of each record: a
+// record whose key equals none before it is asked of none.
 ghost use Rattle.std.specs.Prelude.{◌≡◌, true, cond, ◌+◌, ◌*◌, ◌≤◌, ◌<◌, eqb, length, take, get_or};
 ghost use Rattle.std.proofs.lemmas.List.Edits.{sets};
 ghost use Rattle.std.proofs.Math.Seq.{slice};
@@ -26,18 +26,12 @@ pub fn id_fault(ids: &[u16], from: usize) -> Option<usize>
     None
 }
 
-// Do two object records name the same target and number?
-pub fn same_object(target: u32, number: u64, other_target: u32, other_number: u64) -> bool
-    ensures { result ≡ same_object (object_of target number) (object_of other_target other_number) }
-{
-    (target == other_target) & (number == other_number)
-}
-
 // The key of an object record.
+#[tactic(auto, unfolding(crate::specs::Rows::key_of))]
 fn key_of(target: u32, number: u64) -> u16
     ensures { result ≡ key_of (object_of target number) }
 {
-    ((number % 65536 + 257 * (target as u64 % 65536)) % 65536) as u16
+    ((number % 65536 + 257 * (u64::from(target) % 65536)) % 65536) as u16
 }
 
 // Stores the keys of object records in a row.
@@ -105,7 +99,7 @@ pub fn object_repeat(
 }
 
 // Copies the object records of a component to the rows, from place `at` on; gives the place after them.
-pub fn put_records(c: &Component, at: usize, targets: &mut [u32], numbers: &mut [u64]) -> usize
+fn put_records(c: &Component, at: usize, targets: &mut [u32], numbers: &mut [u64]) -> usize
     requires { (at + 16 ≤ length targets.old) × (at + 16 ≤ length numbers.old) }
     ensures { (result ≡ at + length (records_of c.now))
         × (result ≤ at + 16)
@@ -121,12 +115,7 @@ pub fn put_records(c: &Component, at: usize, targets: &mut [u32], numbers: &mut 
 }
 
 // Copies the object records of components to the rows, from place `at` on; gives the place after them.
-pub fn put_all(
-    components: &[Component],
-    at: usize,
-    targets: &mut [u32],
-    numbers: &mut [u64],
-) -> usize
+fn put_all(components: &[Component], at: usize, targets: &mut [u32], numbers: &mut [u64]) -> usize
     requires { (at + 16 * length components.now ≤ length targets.old)
         × (at + 16 * length components.now ≤ length numbers.old) }
     ensures { let os = records_in components.now in

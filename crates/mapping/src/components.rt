@@ -1,4 +1,4 @@
-// The components of a valid layout, wherever they are kept.
+// What lookup, the way back and cutting ask of the components of a layout.
 ghost use Rattle.std.specs.Prelude.{◌≡◌, ◌<◌, List, length, get_or};
 ghost use Rattle.lists.specs.Tests.{found};
 ghost use Rattle.layout.specs.declared.Component.{Component};

@@ -1,12 +1,12 @@
 -- Laws of the host's growth: growth of the table that was loaded from words is growth of the table of the words, and what the
 -- host's call comes to by what is known on the way.
-use Prim.Native.Nat.{ℕ, zero, suc, ◌<◌}
-use Rattle.std.specs.Prelude.{◌≡◌, List, [], ◌∷◌, true, false, cond, leb, length}
+use Prim.Native.Nat.{ℕ, zero, suc, ◌*◌, ◌≤◌, ◌<◌}
+use Rattle.std.specs.Prelude.{◌≡◌, List, [], ◌∷◌, true, false, cond, leb, length, Result}
 use Rattle.std.proofs.Math.Path.{refl}
 use Rattle.std.proofs.Common.{sym, ap, ◌∙◌, ⊎_elim, arith}
 use Rattle.std.proofs.lemmas.List.Edits.{sets}
 use Rattle.lists.specs.Bools.{bool_cases}
-use Rattle.lists.specs.Slices.{take_sets}
+use Rattle.refusals.specs.declared.Refusal.{Refusal}
 use Rattle.layout.specs.declared.Layout.{Layout}
 use Rattle.layout.specs.Records.{view}
 use Rattle.layout.specs.Rules.{valid}
@@ -14,21 +14,20 @@ use Rattle.layout.specs.Holder.{last_end}
 use Rattle.mapping.specs.Answers.{Answer, gives, refuses}
 use Rattle.mapping.specs.AnswerLaws.{gives_or_refuses}
 use Rattle.free_table.specs.declared.TargetRecord.{TargetRecord}
-use Rattle.free_table.specs.declared.Table.{Table}
-use Rattle.free_table.specs.Table.{table_of, table_ok, usable, with_records}
+use Rattle.free_table.specs.Table.{table_ok, usable}
 use Rattle.free_table.proofs.ChoosingLaws.{length_raised}
 use Rattle.growth_rules.specs.Steps.{Call}
 use Rattle.growth_rules.specs.Growing.{Effect, Outcome, refusing, grow_in, grow_of}
 use Rattle.growth_rules.specs.CallFacts.{Changes}
-use Rattle.growth_rules.proofs.CallLaws.{call_table, refused_some}
+use Rattle.growth_rules.proofs.CallLaws.{call_table}
 use Rattle.growth.specs.declared.Grown.{Grown}
 use Rattle.growth.specs.Answers.{call_of, GrownSays}
-use Rattle.gateway.specs.Host.{host_reading, lent_after}
-use Rattle.gateway.proofs.HostLaws.{own_number}
+use Rattle.gateway.specs.Host.{host_reading, host_layout, lent_after}
+use Rattle.gateway.proofs.HostLaws.{host_valid, own_number}
 use Rattle.gateway.specs.HostGrowth.{word_table, with_next_words, host_grown, pages_of, room_number, later_number, grow_number}
 use Rattle.gateway.specs.HostGrowth.{home_number, table_after, grown_after, answer_after}
-use Rattle.gateway.specs.LentWords.{loaded_words, StepSays}
-use Rattle.gateway.specs.WordLaws.{own_words, raised_words, loaded_places, loaded_count, loaded_ok, loaded_same, good_words}
+use Rattle.gateway.specs.LentWords.{first_held, StepSays}
+use Rattle.gateway.specs.WordLaws.{own_words, raised_words, held_ok, held_good, good_words}
 
 -- On a valid layout, a call with a table that is bad is refused by 10 or 15.
 bad_table : (l : Layout) (k : Call) → table_ok k.table ≡ false
@@ -60,16 +59,16 @@ words_afterwards l offset mark ws =
     (raised_words (usable mark) (length c.objects) ws (good_words ws c.why.table).1))
     (call_table l k)
 
-module _ (l : Layout) (offset mark : ℕ) (ws : List ℕ) (v : valid l ≡ true) (g : Grown)
-    (given : GrownSays (loaded_words ws) g (grow_in l (call_of offset mark (loaded_words ws)))) where
+module _ (l : Layout) (offset mark : ℕ) (ws : List ℕ) (v : valid l ≡ true) (r : Result Grown Refusal) (rs : List TargetRecord)
+    (given : GrownSays l r rs (grow_in l (call_of offset mark (first_held 65 ws)))) where
   -- The call with the table of the words, and what it gives.
   abbrev asked : Call
   asked = record { offset = offset; mark = mark; table = word_table ws }
 
-  -- If that table is bad, so is the one that was loaded;
-  bad_says : table_ok (word_table ws) ≡ false → StepSays ws g (grow_of l asked)
+  -- If that table is bad, so are the records that were loaded;
+  bad_says : table_ok (word_table ws) ≡ false → StepSays l ws r rs (grow_of l asked)
   bad_says e =
-      let seen = bad_table l (call_of offset mark (loaded_words ws)) (loaded_ok ws ∙ e) in
+      let seen = bad_table l (call_of offset mark (first_held 65 ws)) (held_ok ws ∙ e) in
       let all = grow_in_lem l asked v ∙ bad_table l asked e in
       let n : ℕ = cond (leb (last_end (view l)) offset) 10 15 in
       rw all
@@ -79,30 +78,31 @@ module _ (l : Layout) (offset mark : ℕ) (ws : List ℕ) (v : valid l ≡ true)
         table = λ d q. absurd (gives_or_refuses d n (sym q));
       }
 
-  -- if it is good, it is the one that was loaded.
-  good_says : table_ok (word_table ws) ≡ true → StepSays ws g (grow_of l asked)
+  -- if it is good, they are its records.
+  good_says : table_ok (word_table ws) ≡ true → StepSays l ws r rs (grow_of l asked)
   good_says e =
-      let f = good_words ws e in
-      let rs = (grow_of l asked).table in
-      let same : grow_in l (call_of offset mark (loaded_words ws)) ≡ grow_of l asked =
-      ap (λ (t : List TargetRecord). grow_in l (record { offset = offset; mark = mark; table = t })) (loaded_same ws e)
+      let same : grow_in l (call_of offset mark (first_held 65 ws)) ≡ grow_of l asked =
+      ap (λ (t : List TargetRecord). grow_in l (record { offset = offset; mark = mark; table = t })) (held_good ws e)
       ∙ sym (grow_in_lem l asked v) in
-      let n : length rs ≡ length (word_table ws) = call_length l asked in
-      let m : (loaded_words ws).count ≡ length rs = loaded_count ws e ∙ sym n in
-      let table : g.table ≡ with_records (loaded_words ws) rs =
-      given.table ∙ ap (λ (o : Outcome). with_records (loaded_words ws) o.table) same in
-      let count : g.table.count ≡ length (word_table ws) = ap (λ (t : Table). t.count) table ∙ loaded_count ws e in
-      let records : table_of (with_records (loaded_words ws) rs) ≡ rs =
-      rw m (take_sets (loaded_words ws).records rs (omega (arith, loaded_places ws))) in
+      let table : rs ≡ (grow_of l asked).table = given.table ∙ ap (λ (o : Outcome). o.table) same in
+      let few : 3 * length rs ≤ length ws = omega (arith, ap length table, call_length l asked, (good_words ws e).1) in
       record {
         answer = given.answer ∙ ap (λ (o : Outcome). o.answer) same;
         layout = given.layout ∙ ap (λ (o : Outcome). o.layout) same;
-        table = λ d q. (ap table_of table ∙ records, omega arith, omega arith);
+        table = λ d q. (table, few);
       }
 
-  -- So growth of the table that was loaded is growth of the table of the words.
-  pub step_says : StepSays ws g (grow_of l asked)
+  -- So growth of the records that were loaded is growth of the table of the words.
+  pub step_says : StepSays l ws r rs (grow_of l asked)
   step_says = bool_cases (table_ok (word_table ws)) good_says bad_says
+
+-- What growth gave of the layout that was read and the records that were loaded.
+pub step_read : (pages : List ℕ) (offset mark : ℕ) (ws : List ℕ) (l : Layout) (held : List TargetRecord)
+    → (host_reading pages).refusal ≡ 0 → l ≡ host_layout pages → held ≡ first_held 65 ws
+    → (r : Result Grown Refusal) (rs : List TargetRecord) → GrownSays l r rs (grow_in l (call_of offset mark held))
+    → StepSays (host_layout pages) ws r rs (host_grown pages offset mark ws)
+step_read pages offset mark ws l held read same loaded r rs given =
+    step_says (host_layout pages) offset mark ws (host_valid pages read) r rs (rw (same, loaded) at given)
 
 -- The number of a call that growth refuses is that of the refusal, whatever is asked last.
 later_refused : (a : Answer Effect) (n m : ℕ) → later_number a 0 ≡ n → 0 < n → later_number a m ≡ n
@@ -137,29 +137,21 @@ module _ (s : List ℕ) (offset mark : ℕ) (ws bs ns : List ℕ) where
     number_read = own_number s (later_number out.answer (room_number out.layout (length bs))) read
 
     -- by that of growth;
-    pub growth_refused : (n : ℕ) → later_number out.answer 0 ≡ n → 0 < n → Stated n ws bs ns
+    pub growth_refused : (n : ℕ) → refuses n ≡ out.answer → 0 < n → Stated n ws bs ns
     growth_refused n e h =
-        refused_by_lem n (number_read ∙ later_refused out.answer n (room_number out.layout (length bs)) e h) h
+        let own = ap (λ (a : Answer Effect). later_number a 0) (sym e) in
+        refused_by_lem n (number_read ∙ later_refused out.answer n (room_number out.layout (length bs)) own h) h
 
-    -- if growth has no number, it is accepted;
-    accepted_by : (a : Answer Effect) → out.answer ≡ a → later_number a 0 ≡ 0 → (d : Effect) × (out.answer ≡ gives d)
-    accepted_by (gives d) e z = (d, e)
-    accepted_by (refuses n) e z =
-        let k : Call = record { offset = offset; mark = mark; table = word_table ws } in
-        absurd (omega (arith, refused_some (host_reading s).layout k n e))
-
-    pub growth_accepted : later_number out.answer 0 ≡ 0 → (d : Effect) × (out.answer ≡ gives d)
-    growth_accepted z = accepted_by out.answer refl z
-
-    -- 20 is then the only number left, and the results are those of growth.
-    pub results_given : (l : Layout) (t : Table) (home : ℕ) → later_number out.answer 0 ≡ 0 → l ≡ out.layout
-        → table_of t ≡ out.table → home ≡ home_number out.answer → (r : ℕ) (words bytes numbers : List ℕ)
+    -- if growth accepts it, 20 is the only number left, and the results are those of growth.
+    pub results_given : (d : Effect) → gives d ≡ out.answer → (l : Layout) (rs : List TargetRecord) → l ≡ out.layout
+        → rs ≡ out.table → (r : ℕ) (words bytes numbers : List ℕ)
         → (let n = room_number l (length bs) in
-        (r ≡ n) × (words ≡ lent_after n (with_next_words ws (table_of t)) ws) × (bytes ≡ lent_after n (sets bs 0 (pages_of l)) bs)
-        × (numbers ≡ lent_after n (sets ns 0 (length (pages_of l) ∷ home ∷ [])) ns))
+        (r ≡ n) × (words ≡ lent_after n (with_next_words ws rs) ws) × (bytes ≡ lent_after n (sets bs 0 (pages_of l)) bs)
+        × (numbers ≡ lent_after n (sets ns 0 (length (pages_of l) ∷ cond d.home 1 0 ∷ [])) ns))
         → Stated r words bytes numbers
     unfolding table_after grown_after answer_after
-    results_given l t home z same_layout same_table same_home r words bytes numbers given =
-        let a = growth_accepted z in
-        let n : number ≡ room_number out.layout (length bs) = number_read ∙ rw a.1 in
-        rw n (rw (same_layout, same_table, same_home) at given)
+    results_given d e l rs same_layout same_table r words bytes numbers given =
+        let n : number ≡ room_number out.layout (length bs) =
+        number_read ∙ ap (λ (a : Answer Effect). later_number a (room_number out.layout (length bs))) (sym e) in
+        let home : cond d.home 1 0 ≡ home_number out.answer = ap home_number e in
+        rw n (rw (same_layout, same_table, home) at given)

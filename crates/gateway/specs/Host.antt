@@ -6,8 +6,7 @@ use Rattle.std.proofs.lemmas.List.Edits.{sets}
 use Rattle.layout.specs.declared.Component.{Component}
 use Rattle.layout.specs.declared.Layout.{Layout}
 use Rattle.layout.specs.Records.{view}
-use Rattle.collector.specs.declared.Reading.{Reading}
-use Rattle.collector.specs.Runs.{read_run, host_cut}
+use Rattle.collector.specs.Runs.{Reading, read_run, host_cut}
 use Rattle.mapping.specs.Homes.{Home, in_object, home_of}
 use Rattle.mapping.specs.Lookup.{lookup_refusal}
 use Rattle.mapping.specs.Back.{back_refusal, byte_of}

@@ -1,37 +1,35 @@
--- What is returned, and what is in a lent place, once the answer of a call was stored there.
-use Prim.Native.Nat.{ℕ, zero, suc}
-use Rattle.std.specs.Prelude.{◌≡◌, refl, List, length}
-use Rattle.std.proofs.Common.{sym, ap, ◌∙◌}
-use Rattle.mapping.specs.Answers.{Answer, gives, refuses, answer, answer_number}
-use Rattle.paging.specs.declared.PageOut.{PageOut}
-use Rattle.paging.specs.declared.PageOut.TheVariants.{Written, Refused}
+-- What is returned, and what is in a lent place, by the answer of a call: what it gives is stored there, or it refuses and
+-- what was there stays.
+use Rattle.std.specs.Prelude.{ℕ, zero, suc, ◌≡◌, refl, List, length, Ok, Err}
+use Rattle.std.proofs.Common.{ap}
+use Rattle.mapping.specs.Answers.{gives, refuses, answer, answer_number}
+use Rattle.mapping.specs.AnswerLaws.{gives_or_refuses}
 use Rattle.paging.specs.Paging.{out_answer}
 use Rattle.gateway.specs.Host.{lent_after}
 
--- What is in the lent place once an answer was stored: what the answer gives, as `put` writes it, or what was there.
-unfoldable pub stored_in : {A B : Type 0} → (A → B) → Answer A → B → B
-stored_in put (gives a) lent = put a
-stored_in put (refuses n) lent = lent
+-- The answer under a number that gives b: the number is 0, and b is stored, as `put` writes it.
+pub given_stored : {A B : Type 0} (put : A → B) (lent : B) (n : ℕ) (a b : A) → gives b ≡ answer n a
+    → (0 ≡ n) × (put b ≡ lent_after n (put a) lent)
+unfolding lent_after
+given_stored put lent zero a b e = let same : b ≡ a = cc in (refl, ap put same)
+given_stored put lent (suc n) a b e = absurd (gives_or_refuses b (suc n) e)
 
--- What the answer of a call that writes a page says, case by case: how many bytes were written, or the number.
-unfoldable pub written_says : PageOut → Answer ℕ
-written_says (Written bytes) = gives bytes
-written_says (Refused n) = refuses n
+-- The answer under a number that refuses: it is that number, and the lent place stays.
+pub refused_kept : {A B : Type 0} (put : A → B) (lent : B) (n : ℕ) (a : A) (m : ℕ) → refuses m ≡ answer n a
+    → (m ≡ n) × (lent ≡ lent_after n (put a) lent)
+unfolding lent_after
+refused_kept put lent zero a m e = cc
+refused_kept put lent (suc n) a m e = (ap answer_number e, refl)
 
-module _ {A B : Type 0} (put : A → B) (lent : B) where
-  -- Both of an answer that is known to be y.
-  pub stored_case : {x y : Answer A} → x ≡ y → (answer_number y ≡ answer_number x) × (stored_in put y lent ≡ stored_in put x lent)
-  stored_case e = (sym (ap answer_number e), sym (ap (λ (z : Answer A). stored_in put z lent) e))
+-- The same of the answer of a call that writes a page.
+pub page_stored : (lent n : ℕ) (page : List ℕ) (bytes : ℕ) → Ok bytes ≡ out_answer n page
+    → (0 ≡ n) × (bytes ≡ lent_after n (length page) lent)
+unfolding out_answer lent_after
+page_stored lent zero page bytes e = (refl, cc)
+page_stored lent (suc n) page bytes e = cc
 
-  -- The answer under a number: that is the number, and the lent place is as it is after a call of that number.
-  pub stored_as : (n : ℕ) (a : A) (x : Answer A) (r : ℕ) (after : B)
-      → (r ≡ answer_number x) × (after ≡ stored_in put x lent) → x ≡ answer n a → (r ≡ n) × (after ≡ lent_after n (put a) lent)
-  unfolding stored_in lent_after
-  stored_as zero a x r after s e = (s.0 ∙ rw e, s.1 ∙ rw e)
-  stored_as (suc n) a x r after s e = (s.0 ∙ rw e, s.1 ∙ rw e)
-
--- What the answer under a number says of a page.
-pub written_says_lem : (n : ℕ) (page : List ℕ) → written_says (out_answer n page) ≡ answer n (length page)
-unfolding written_says out_answer
-written_says_lem zero page = refl
-written_says_lem (suc n) page = refl
+pub page_kept : (lent n : ℕ) (page : List ℕ) (m : ℕ) → Err m ≡ out_answer n page
+    → (m ≡ n) × (lent ≡ lent_after n (length page) lent)
+unfolding out_answer lent_after
+page_kept lent zero page m e = cc
+page_kept lent (suc n) page m e = (cc, refl)

@@ -1,20 +1,19 @@
 -- Laws of a table that is lent as words: how it is loaded and written back record by record, and what the loaded table says.
-use Rattle.std.specs.Prelude.{ℕ, zero, suc, ◌+◌, ◌-◌, ◌*◌, ◌%◌, ◌≤◌, ◌<◌, min, ◌≡◌, refl, List, [], ◌∷◌, map, Bool, true, false, ◌&&◌, leb, get_or, take, drop, set, replicate}
+use Rattle.std.specs.Prelude.{ℕ, zero, suc, ◌+◌, ◌-◌, ◌*◌, ◌%◌, ◌≤◌, ◌<◌, min, ◌≡◌, refl, List, [], ◌∷◌, map, Bool, true, false, ◌&&◌, leb, get_or, take, drop, set}
 use Rattle.std.proofs.Math.Path.{ap}
-use Rattle.std.proofs.Common.{◌∙◌, arith, add-zero, add-one, length-take, length-drop, drop_of_length-le, drop-drop, get_or-drop, take_all, le-leb, leb-true, leb-false}
+use Rattle.std.proofs.Common.{arith, add-zero, add-one, length-take, length-drop, drop_of_length-le, drop-drop, get_or-drop, take_all, le-leb, leb-true, leb-false}
 use Rattle.std.proofs.Math.ListN.{length}
-use Rattle.std.proofs.lemmas.List.{length-map, length-replicate}
-use Rattle.std.proofs.Math.Seq.{length-sets, take-nil}
+use Rattle.std.proofs.lemmas.List.{length-map}
+use Rattle.std.proofs.Math.Seq.{take-nil}
 use Rattle.std.proofs.lemmas.Bool.{lt-leb}
 use Rattle.lists.specs.Bools.{bool_cases}
-use Rattle.lists.specs.Slices.{take_sets}
 use Rattle.free_table.specs.declared.TargetRecord.{TargetRecord}
-use Rattle.free_table.specs.Table.{no_record, table_of, rising, table_ok}
+use Rattle.free_table.specs.Table.{no_record, rising, table_ok}
 use Rattle.free_table.specs.Choosing.{raised, raised_first}
 use Rattle.free_table.proofs.TableLaws.{first_rises}
 use Rattle.free_table.proofs.ChoosingLaws.{table_facts}
 use Rattle.gateway.specs.HostGrowth.{cut_record, word_table, with_next_words}
-use Rattle.gateway.specs.LentWords.{held_record, record_at, first_held, loaded_words}
+use Rattle.gateway.specs.LentWords.{held_record, record_at, first_held}
 
 -- Words are the first record and the records of the words after it.
 first_record : (ws : List ℕ) → 0 < length ws → word_table ws ≡ record_at ws 0 ∷ word_table (drop 3 ws)
@@ -41,6 +40,10 @@ record_drop ws p h =
     (λ e. let k : length ws < p + 3 = leb-false (p + 3) (length ws) e in
     rw (e, lt-leb 3 (length (drop p ws)) (omega (arith, length-drop p ws))))
 
+-- The same of the words from a place up to the end.
+pub record_part : (ws : List ℕ) (p : ℕ) → p ≤ length ws → record_at (take (length ws - p) (drop p ws)) 0 ≡ record_at ws p
+record_part ws p h = rw (take_all (length ws - p) (drop p ws) (omega (arith, length-drop p ws))) (record_drop ws p h)
+
 -- So the records from a place on are the one that begins there and those after it, as far as there is a place for them.
 pub held_next : (ws : List ℕ) (i : ℕ) → i < 65 → 3 * i < length ws
     → first_held (65 - i) (drop (3 * i) ws)
@@ -63,13 +66,6 @@ held_none ws i h = rw (drop_of_length-le ws {i = 3 * i} h) (take-nil (65 - i))
 -- nor is there a place for one after 65.
 pub held_full : (ws : List ℕ) (i : ℕ) → 65 ≤ i → first_held (65 - i) (drop (3 * i) ws) ≡ []
 held_full ws i h = let n : 65 - i ≡ 0 = omega arith in rw n
-
--- The records of the table that was loaded.
-pub loaded_table : (ws : List ℕ) → table_of (loaded_words ws) ≡ first_held 65 ws
-unfolding loaded_words
-loaded_table ws =
-    take_sets (replicate 65 no_record) (first_held 65 ws)
-    (omega (arith, length-take 65 (map held_record (word_table ws)), length-replicate 65 no_record))
 
 -- A test that is followed by one that fails.
 and_false : (a : Bool) → (a && false) ≡ false
@@ -95,39 +91,24 @@ held_same from (r ∷ rs) e =
     let m : min 65535 r.target ≡ r.target = omega arith in
     rw (m, held_same (r.target + 1) rs p.2)
 
--- The table that was loaded is good exactly if the table of the words is,
-pub loaded_ok : (ws : List ℕ) → table_ok (table_of (loaded_words ws)) ≡ table_ok (word_table ws)
+-- The records that were loaded are a good table exactly if those of the words are.
+pub held_ok : (ws : List ℕ) → table_ok (first_held 65 ws) ≡ table_ok (word_table ws)
 unfolding table_ok
-loaded_ok ws =
+held_ok ws =
     let rs = word_table ws in
     let held = map held_record rs in
     let n : length held ≡ length rs = length-map rs held_record in
-    rw (loaded_table ws)
-    (bool_cases (leb (length rs) 64)
+    bool_cases (leb (length rs) 64)
     (λ e. rw (take_all 65 held (omega (arith, leb-true (length rs) 64 e)), n, held_rises 0 rs))
     (λ e. let long : leb (length (take 65 held)) 64 ≡ false =
     lt-leb (length (take 65 held)) 64 (omega (arith, length-take 65 held, leb-false (length rs) 64 e)) in
-    rw (e, long)))
+    rw (e, long))
 
--- and it has 65 places.
-pub loaded_places : (ws : List ℕ) → length (loaded_words ws).records ≡ 65
-unfolding loaded_words
-loaded_places ws = length-sets (replicate 65 no_record) 0 (first_held 65 ws) ∙ length-replicate 65 no_record
-
--- A good table is loaded as it is,
-module _ (ws : List ℕ) (e : table_ok (word_table ws) ≡ true) where
-  held_good : first_held 65 ws ≡ word_table ws
-  held_good =
-      let f = table_facts (word_table ws) e in
-      rw (held_same 0 (word_table ws) f.1) (take_all 65 (word_table ws) (omega arith))
-
-  pub loaded_same : table_of (loaded_words ws) ≡ word_table ws
-  loaded_same = loaded_table ws ∙ held_good
-
-  -- with all its records;
-  pub loaded_count : (loaded_words ws).count ≡ length (word_table ws)
-  unfolding loaded_words
-  loaded_count = ap length held_good
+-- The records of a good table are loaded as they are,
+pub held_good : (ws : List ℕ) → table_ok (word_table ws) ≡ true → first_held 65 ws ≡ word_table ws
+held_good ws e =
+    let f = table_facts (word_table ws) e in
+    rw (held_same 0 (word_table ws) f.1) (take_all 65 (word_table ws) (omega arith))
 
 -- each of its records has three words,
 three_words : (from : ℕ) (ws : List ℕ) → rising from (word_table ws) ≡ true → 3 * length (word_table ws) ≡ length ws

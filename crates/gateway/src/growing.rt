@@ -1,20 +1,17 @@
 // Growth for the host: pages back to back in and out, the free table as words.
-ghost use Rattle.std.specs.Prelude.{◌≡◌, true, [], ◌∷◌, ◌+◌, ◌*◌, ◌<◌, ◌≤◌, min, length};
+ghost use Rattle.std.specs.Prelude.{◌≡◌, true, [], ◌∷◌, ◌+◌, ◌*◌, ◌≤◌, cond, length, take};
 ghost use Rattle.std.proofs.lemmas.List.Edits.{sets};
+ghost use Rattle.refusals.specs.Refusals.{number_in};
 ghost use Rattle.layout.specs.Rules.{valid};
-ghost use Rattle.free_table.specs.Table.{table_of};
-ghost use Rattle.growth_rules.specs.Growing.{grow_of};
-ghost use Rattle.growth.specs.Answers.{grow_says};
 ghost use Rattle.gateway.specs.Host.{lent_after};
-ghost use Rattle.gateway.specs.HostGrowth.{word_table, with_next_words, host_grown, pages_of, room_number};
-ghost use Rattle.gateway.specs.HostGrowth.{later_number, grow_number, home_number};
-ghost use Rattle.gateway.specs.HostGrowth.{table_after, grown_after, answer_after};
-ghost use Rattle.gateway.specs.LentWords.{held_record, record_at, loaded_words, written_length, page_if, StepSays};
+ghost use Rattle.gateway.specs.HostGrowth.{with_next_words, host_grown, pages_of, room_number};
+ghost use Rattle.gateway.specs.HostGrowth.{grow_number, table_after, grown_after, answer_after};
+ghost use Rattle.gateway.specs.LentWords.{held_record, record_at, first_held};
 
-use free_table::{NO_RECORD, Table, TargetRecord};
-use growth::{GrowOut, Grown};
+use free_table::{NO_RECORD, TargetRecord};
+use growth::Grown;
 use layout::Layout;
-use paging::PageOut;
+use refusals::Refusal;
 
 // The record for words that make no whole record: its target makes the table bad.
 const CUT_RECORD: TargetRecord = TargetRecord {
@@ -23,80 +20,41 @@ const CUT_RECORD: TargetRecord = TargetRecord {
     next: 0,
 };
 
-// A target as a table in memory has it: those above 65,534 are equally bad, and are there as 65,535.
-fn held_target(word: u64) -> u32
-    ensures { result ≡ min 65535 word }
+// The record of the first three words, as a table in memory has it: targets above 65,534 are equally bad, and are there
+// as 65,535. The cut record if there are fewer words.
+fn first_record(words: &[u64]) -> TargetRecord
+    ensures { result ≡ held_record (record_at words.now 0) }
 {
-    if word < 65535 { word as u32 } else { 65535 }
-}
-
-// The record whose three words begin at place p, or the cut record if fewer than three words are there.
-fn record_at(words: &[u64], p: usize) -> TargetRecord
-    requires { p < length words.now }
-    ensures { result ≡ held_record (record_at words.now p) }
-{
-    if words.len() - p < 3 {
-        return CUT_RECORD;
-    }
-    TargetRecord {
-        target: held_target(words[p]),
-        free: words[p + 1],
-        next: words[p + 2],
+    match words {
+        [target, free, next, ..] => TargetRecord {
+            target: (*target).min(65535) as u32,
+            free: *free,
+            next: *next,
+        },
+        _ => CUT_RECORD,
     }
 }
 
-// The table of the words, or the first 65 of its records if they are more: 65 are too many already.
-fn load(words: &[u64]) -> Table
-    ensures { result ≡ loaded_words words.now }
+// Puts the records of the words into the first places, at most 65 of them: 65 are too many already. Tells how many it
+// put there.
+fn load(words: &[u64], records: &mut [TargetRecord; 65]) -> usize
+    ensures { (result ≤ 65) × (take result records.new ≡ first_held 65 words.now) }
 {
-    let mut t = Table {
-        count: 0,
-        records: [NO_RECORD; 65],
-    };
-    let mut i: usize = 0;
-    while i < 65 {
-        if words.len() <= 3 * i {
-            return t;
-        }
-        t.records[i] = record_at(words, 3 * i);
-        i += 1;
-        t.count = i;
+    let n = words.len().div_ceil(3).min(65);
+    for (i, record) in records[..n].iter_mut().enumerate() {
+        *record = first_record(&words[3 * i..]);
     }
-    t
+    n
 }
 
-// Stores the next numbers of the table, each in the third word of its record.
-fn put_nexts(words: &mut [u64], t: Table)
-    requires { (t.count ≤ 65) × (3 * t.count ≤ length words.old) }
-    ensures { words.new ≡ with_next_words words.old (table_of t) }
+// Stores the next numbers of the records, each in the third word of its record.
+fn put_nexts(words: &mut [u64], records: &[TargetRecord])
+    requires { 3 * length records.now ≤ length words.old }
+    ensures { words.new ≡ with_next_words words.old records.now }
 {
-    let n = t.count;
-    let mut i: usize = 0;
-    while i < n {
-        let r = t.records[i];
-        words[3 * i + 2] = r.next;
-        i += 1;
+    for (i, record) in records.iter().enumerate() {
+        words[3 * i + 2] = record.next;
     }
-}
-
-// The bytes of the page that was written, 0 if none was.
-fn written(out: PageOut) -> usize
-    ensures { result ≡ written_length out }
-{
-    match out {
-        PageOut::Written(n) => n,
-        PageOut::Refused(_) => 0,
-    }
-}
-
-// How many bytes page `number` of a valid layout has, 0 if there is no such page.
-fn page_length(l: Layout, number: u64) -> usize
-    requires { valid l ≡ true }
-    ensures { (result ≡ length (page_if l number)) × (result ≤ 512) }
-{
-    let mut buffer = [0u8; 512];
-    let out = paging::write_page(l, number, &mut buffer);
-    written(out)
 }
 
 // How many bytes the pages of a valid layout have.
@@ -104,29 +62,15 @@ fn pages_length(l: Layout) -> usize
     requires { valid l ≡ true }
     ensures { result ≡ length (pages_of l) }
 {
-    let mut bytes: usize = 0;
-    let mut k: u64 = 0;
-    while k < 16 {
-        let n = page_length(l, k);
-        if n == 0 {
-            return bytes;
-        }
-        bytes = bytes + n;
-        k += 1;
+    let mut bytes = 0;
+    for k in 0..16 {
+        let mut page = [0u8; 512];
+        let Ok(n) = paging::write_page(l, k, &mut page) else {
+            break;
+        };
+        bytes += n;
     }
     bytes
-}
-
-// Writes page `number` of a valid layout from place p on, and gives its length; if there is no such page, it writes
-// nothing and gives 0.
-fn put_page(l: Layout, number: u64, buffer: &mut [u8], p: usize) -> usize
-    requires { (valid l ≡ true) × (p + length (page_if l number) ≤ length buffer.old) }
-    ensures { (result ≡ length (page_if l number))
-        × (buffer.new ≡ sets buffer.old p (page_if l number)) }
-{
-    let rest = &mut buffer[p..];
-    let out = paging::write_page(l, number, rest);
-    written(out)
 }
 
 // Writes the pages of a valid layout back to back into the first bytes of the buffer.
@@ -134,76 +78,72 @@ fn put_pages(l: Layout, buffer: &mut [u8])
     requires { (valid l ≡ true) × (length (pages_of l) ≤ length buffer.old) }
     ensures { buffer.new ≡ sets buffer.old 0 (pages_of l) }
 {
-    let mut p: usize = 0;
-    let mut k: u64 = 0;
-    while k < 16 {
-        let n = put_page(l, k, buffer, p);
-        if n == 0 {
-            return;
-        }
-        p = p + n;
-        k += 1;
+    let mut p = 0;
+    for k in 0..16 {
+        let Ok(n) = paging::write_page(l, k, &mut buffer[p..]) else {
+            break;
+        };
+        p += n;
     }
 }
 
-// Writes the results of growth that was accepted: the next numbers into the words, the pages into the buffer, and the
-// two numbers of the answer. Refused by 20 if the buffer is shorter than the pages.
+// Stores the results of growth that was accepted: the next numbers in the words, the pages in the buffer, and the two
+// numbers of the answer. Refused if the buffer is shorter than the pages.
 fn give(
-    l: Layout,
-    t: Table,
-    home: u64,
+    grown: &Grown,
+    records: &[TargetRecord],
     words: &mut [u64],
     buffer: &mut [u8],
     answer: &mut [u64; 2],
-) -> u32
-    requires { (valid l ≡ true) × (t.count ≤ 65) × (3 * t.count ≤ length words.old) }
-    ensures { let n = room_number l (length buffer.old) in
-        (result ≡ n)
-        × (words.new ≡ lent_after n (with_next_words words.old (table_of t)) words.old)
+) -> Result<(), Refusal>
+    requires { (valid grown.now.layout ≡ true) × (3 * length records.now ≤ length words.old) }
+    ensures { let l = grown.now.layout in
+        let n = room_number l (length buffer.old) in
+        (number_in result ≡ n)
+        × (words.new ≡ lent_after n (with_next_words words.old records.now) words.old)
         × (buffer.new ≡ lent_after n (sets buffer.old 0 (pages_of l)) buffer.old)
         × (answer.new
-        ≡ lent_after n (sets answer.old 0 (length (pages_of l) ∷ home ∷ [])) answer.old) }
+        ≡ lent_after
+        n
+        (sets answer.old 0 (length (pages_of l) ∷ cond grown.now.effect.home 1 0 ∷ []))
+        answer.old) }
 {
-    let bytes = pages_length(l);
+    let bytes = pages_length(grown.layout);
     if buffer.len() < bytes {
-        return 20;
+        return Err(Refusal::Buffer);
     }
-    put_pages(l, buffer);
-    put_nexts(words, t);
-    answer[0] = bytes as u64;
-    answer[1] = home;
-    0
+    put_pages(grown.layout, buffer);
+    put_nexts(words, records);
+    *answer = [bytes as u64, u64::from(grown.effect.home)];
+    Ok(())
 }
 
-// Makes a step of growth of a valid layout with the table of the words.
-fn step(l: Layout, offset: u64, mark: u64, words: &[u64]) -> Grown
-    requires { valid l ≡ true }
-    ensures { StepSays
-        words.now
-        result
-        (grow_of l (record { offset = offset; mark = mark; table = word_table words.now })) }
+// Makes one step of growth, and stores its results.
+fn grow(
+    pages: &[u8],
+    offset: u64,
+    low_mark: u64,
+    table: &mut [u64],
+    grown: &mut [u8],
+    answer: &mut [u64; 2],
+) -> Result<(), Refusal>
+    ensures { let o = host_grown pages.now offset low_mark table.old in
+        let n = grow_number
+        pages.now
+        offset
+        low_mark
+        table.old
+        (length grown.old) in
+        (number_in result ≡ n)
+        × (table.new ≡ table_after n table.old o)
+        × (grown.new ≡ grown_after n grown.old o)
+        × (answer.new ≡ answer_after n answer.old o) }
 {
-    growth::grow_valid(l, offset, mark, load(words))
-}
-
-// The number of an answer, 0 if it was accepted.
-fn number_of(out: GrowOut) -> u8
-    ensures { result ≡ later_number (grow_says out) 0 }
-{
-    match out {
-        GrowOut::Accepted(_) => 0,
-        GrowOut::Refused(n) => n,
-    }
-}
-
-// 1 if the answer says that the offset now has a home, else 0.
-fn home_of(out: GrowOut) -> u64
-    ensures { result ≡ home_number (grow_says out) }
-{
-    match out {
-        GrowOut::Accepted(e) => if e.home { 1 } else { 0 },
-        GrowOut::Refused(_) => 0,
-    }
+    let l = crate::read_layout(pages)?;
+    let mut records = [NO_RECORD; 65];
+    let n = load(table, &mut records);
+    let step = growth::grow_valid(l, offset, low_mark, &mut records[..n])?;
+    give(&step, &records[..n], table, grown, answer)
 }
 
 // Makes one step of growth of the layout whose pages are back to back in `pages`, for the component that holds the
@@ -241,18 +181,5 @@ pub fn moorsickle_grow(
         × (grown.new ≡ grown_after n grown.old o)
         × (answer.new ≡ answer_after n answer.old o) }
 {
-    let mut places = [0usize; 16];
-    let read = placed_run::read(pages, &mut places);
-    if read.refusal != 0 {
-        return read.refusal as u32;
-    }
-    let l = in_place::whole::layout_at(pages, &places, read.count, read.generation);
-    let g = step(l, offset, low_mark, table);
-    let out = g.out;
-    let number = number_of(out);
-    if number != 0 {
-        return number as u32;
-    }
-    let home = home_of(out);
-    give(g.layout, g.table, home, table, grown, answer)
+    crate::number_of(grow(pages, offset, low_mark, table, grown, answer))
 }

@@ -11,18 +11,61 @@
 //  6, 7, 8 the components break the rules of fields, of neighbours or of distinctness.
 // The pages are read in place: a layout is built only if a page of it is asked for, or it is to grow.
 //
+// Each call is made by a function that answers with a `Result`, and `number_of` gives the number of that.
+//
 // Offsets, lengths and bytes are counted in bytes, a file byte from the file's start and an object byte from its
 // object's; pages, components and stripes are counted from 0.
 #![tactic(auto)]
 
-ghost use Rattle.std.specs.Prelude.{◌≡◌};
+ghost use Rattle.std.specs.Prelude.{◌≡◌, IfOk};
+ghost use Rattle.refusals.specs.Refusals.{number_in};
 ghost use Rattle.layout.specs.Rows.{object_of};
 ghost use Rattle.mapping.specs.Homes.{in_object};
+ghost use Rattle.gateway.specs.Host.{host_reading, host_layout};
 ghost use Rattle.gateway.specs.Host.{lookup_number, home_after, back_number, offset_after};
 ghost use Rattle.gateway.specs.Host.{cut_number, pieces_after, count_after, page_number, buffer_after, written_after};
 
+use layout::{Layout, Object};
+use placed_mapping::Placed;
+use refusals::Refusal;
+
 pub mod growing;
-mod lent;
+
+// The number that a call returns: that of the refusal, or 0.
+fn number_of(answer: Result<(), Refusal>) -> u32
+    ensures { result ≡ number_in answer }
+{
+    match answer {
+        Ok(()) => 0,
+        Err(refusal) => u32::from(refusal.number()),
+    }
+}
+
+// The layout that is in the pages.
+fn read_layout(pages: &[u8]) -> Result<Layout, Refusal>
+    ensures number { number_in result ≡ (host_reading pages.now).refusal }
+    ensures layout { IfOk result (λ l. l ≡ host_layout pages.now) }
+{
+    let mut places = [0; 16];
+    let read = placed_run::read(pages, &mut places)?;
+    Ok(in_place::whole::layout_at(pages, &places[..read.count], read.generation))
+}
+
+// Stores the home of a file byte.
+fn lookup(pages: &[u8], offset: u64, home: &mut [u64; 3]) -> Result<(), Refusal>
+    ensures { (number_in result ≡ lookup_number pages.now offset)
+        × (home.new ≡ home_after pages.now offset home.old) }
+{
+    let mut places = [0; 16];
+    let read = placed_run::read(pages, &mut places)?;
+    let placed = Placed {
+        pages,
+        places: &places[..read.count],
+    };
+    let found = placed.lookup(offset)?;
+    *home = [u64::from(found.target), found.number, found.byte];
+    Ok(())
+}
 
 // The home of the file byte at `offset`: `home` receives the target and the number of the object and the byte of that
 // object. Refused, once the pages are read, by one of these numbers:
@@ -32,13 +75,24 @@ pub fn moorsickle_lookup(pages: &[u8], offset: u64, home: &mut [u64; 3]) -> u32
     ensures { (result ≡ lookup_number pages.now offset)
         × (home.new ≡ home_after pages.now offset home.old) }
 {
-    let mut places = [0usize; 16];
-    let read = placed_run::read(pages, &mut places);
-    if read.refusal != 0 {
-        return read.refusal as u32;
-    }
-    let found = placed_mapping::homes::lookup(pages, &places, read.count, offset);
-    lent::put_home(found, home)
+    number_of(lookup(pages, offset, home))
+}
+
+// Stores the file byte of a home.
+fn back(pages: &[u8], target: u32, number: u64, byte: u64, offset: &mut u64) -> Result<(), Refusal>
+    ensures { let bytes = pages.now in
+        let home = in_object (object_of target number) byte in
+        (number_in result ≡ back_number bytes home)
+        × (offset.new ≡ offset_after bytes home offset.old) }
+{
+    let mut places = [0; 16];
+    let read = placed_run::read(pages, &mut places)?;
+    let placed = Placed {
+        pages,
+        places: &places[..read.count],
+    };
+    *offset = placed.back(Object { target, number }, byte)?;
+    Ok(())
 }
 
 // The way back: `offset` receives the file byte whose home is byte `byte` of the object with this target and number.
@@ -51,13 +105,31 @@ pub fn moorsickle_back(pages: &[u8], target: u32, number: u64, byte: u64, offset
         (result ≡ back_number bytes home)
         × (offset.new ≡ offset_after bytes home offset.old) }
 {
-    let mut places = [0usize; 16];
-    let read = placed_run::read(pages, &mut places);
-    if read.refusal != 0 {
-        return read.refusal as u32;
-    }
-    let found = placed_mapping::objects::back(pages, &places, read.count, target, number, byte);
-    lent::put_offset(found, offset)
+    number_of(back(pages, target, number, byte, offset))
+}
+
+// Stores the pieces of a request, and their number.
+fn cut(
+    pages: &[u8],
+    offset: u64,
+    length: u64,
+    room: &mut [u64],
+    count: &mut u64,
+) -> Result<(), Refusal>
+    ensures { let bytes = pages.now in
+        let lent = room.old in
+        (number_in result ≡ cut_number bytes offset length lent)
+        × (room.new ≡ pieces_after bytes offset length lent)
+        × (count.new ≡ count_after bytes offset length lent count.old) }
+{
+    let mut places = [0; 16];
+    let read = placed_run::read(pages, &mut places)?;
+    let placed = Placed {
+        pages,
+        places: &places[..read.count],
+    };
+    *count = placed.cut(offset, length, room)?;
+    Ok(())
 }
 
 // Cuts the request of `length` bytes from `offset` at every component border and at every multiple of the component's
@@ -81,13 +153,20 @@ pub fn moorsickle_cut(
         × (room.new ≡ pieces_after bytes offset length lent)
         × (count.new ≡ count_after bytes offset length lent count.old) }
 {
-    let mut places = [0usize; 16];
-    let read = placed_run::read(pages, &mut places);
-    if read.refusal != 0 {
-        return read.refusal as u32;
-    }
-    let cut = placed_mapping::cutting::cut(pages, &places, read.count, offset, length, room);
-    lent::put_count(cut, count)
+    number_of(cut(pages, offset, length, room, count))
+}
+
+// Stores a page of the layout, and the number of its bytes.
+fn page(pages: &[u8], number: u64, buffer: &mut [u8], written: &mut u64) -> Result<(), Refusal>
+    ensures { let bytes = pages.now in
+        let lent = buffer.old in
+        (number_in result ≡ page_number bytes number lent)
+        × (buffer.new ≡ buffer_after bytes number lent)
+        × (written.new ≡ written_after bytes number lent written.old) }
+{
+    let l = read_layout(pages)?;
+    *written = paging::write_page(l, number, buffer)? as u64;
+    Ok(())
 }
 
 // Writes page `number` of the layout into the first bytes of `buffer`; the bytes after the page stay. A page takes the
@@ -102,12 +181,5 @@ pub fn moorsickle_page(pages: &[u8], number: u64, buffer: &mut [u8], written: &m
         × (buffer.new ≡ buffer_after bytes number lent)
         × (written.new ≡ written_after bytes number lent written.old) }
 {
-    let mut places = [0usize; 16];
-    let read = placed_run::read(pages, &mut places);
-    if read.refusal != 0 {
-        return read.refusal as u32;
-    }
-    let l = in_place::whole::layout_at(pages, &places, read.count, read.generation);
-    let out = paging::write_page(l, number, buffer);
-    lent::put_written(out, written)
+    number_of(page(pages, number, buffer, written))
 }

@@ -1,5 +1,5 @@
 -- What each public call answers, by the number of its first refusal and by the cases of its answer.
-use Rattle.std.specs.Prelude.{ℕ, zero, suc, ◌+◌, ◌^◌, ◌<◌, ◌≡◌, refl, List, ◌++◌, ◌↔◌, true, false, cond, ◌&&◌, leb, ltb, length}
+use Rattle.std.specs.Prelude.{ℕ, zero, suc, ◌+◌, ◌^◌, ◌<◌, ◌≡◌, refl, Ok, Err, List, ◌++◌, ◌↔◌, true, false, cond, ◌&&◌, leb, ltb, length}
 use Rattle.std.proofs.Common.{sym, ap, ◌∙◌, arith, ltb-true}
 use Rattle.std.proofs.Math.Option.{some}
 use Rattle.std.proofs.lemmas.List.Edits.{sets}
@@ -23,14 +23,12 @@ use Rattle.collector.specs.Collector.{gathered, collector_ok}
 use Rattle.collector.specs.Taking.{number_of, is_next, added, content_refusal, open_refusal, page_refusal, page_in}
 use Rattle.collector.specs.Giving.{layout_out}
 use Rattle.collector.proofs.CallLaws.{answer_number_lem, taken_answer, taken_collector, refused_collector}
-use Rattle.paging.specs.declared.PageOut.TheVariants.{Written}
+use Rattle.refusals.specs.declared.Refusal as code
+use Rattle.refusals.specs.Refusals.{number_of as code_number}
 use Rattle.paging.specs.Paging.{is_some, from_page, written_page, write_refusal, out_refusal}
 use Rattle.paging.specs.Paging.{out_answer, out_number, out_buffer}
 use Rattle.paging.specs.PagingLaws.{out_number_lem}
 use Rattle.mapping.specs.declared.ObjectHome.{ObjectHome}
-use Rattle.mapping.specs.declared.LookupOut.TheVariants as LookupOut
-use Rattle.mapping.specs.declared.BackOut.TheVariants as BackOut
-use Rattle.mapping.specs.declared.CutOut.TheVariants as CutOut
 use Rattle.mapping.specs.declared.Piece.{Piece}
 use Rattle.mapping.specs.Answers.{Answer, gives, refuses, answer, checked, answer_number}
 use Rattle.mapping.specs.AnswerLaws.{gives_or_refuses, answer_gives, checked_gives}
@@ -49,8 +47,7 @@ use Rattle.growth_rules.specs.CallFacts.{Leaves, Changes}
 use Rattle.growth_rules.proofs.CallLaws.{refused_some, refusal_leaves, unchanged_leaves, changed_changes, answer_home}
 use Rattle.growth_rules.proofs.AcceptedLaws.{unchanged_home}
 use Rattle.growth.specs.declared.Effect.{Effect}
-use Rattle.growth.specs.declared.GrowOut.TheVariants as GrowOut
-use Rattle.growth.specs.Answers.{grow_says}
+use Rattle.moorsickle.specs.Answers.{grow_says}
 use Rattle.promises.specs.Numbers.{Refusal, IsFirst, RefusedBy}
 use Rattle.promises.specs.Calls.{page_in_numbers, layout_out_numbers, page_out_numbers, lookup_numbers, back_numbers}
 use Rattle.promises.specs.Calls.{cut_numbers, cut_room, growth_numbers}
@@ -138,7 +135,7 @@ module _ (c : Collector) (s : List ℕ) where
 
   -- and one that is not is taken.
   pub page_in_taken : number_of (page_in c s).answer ≡ 0
-      → ((page_in c s).answer ≡ cond (head_of s).more More Complete)
+      → ((page_in c s).answer ≡ Ok (cond (head_of s).more More Complete))
       × ((page_in c s).collector ≡ added c (head_of s) (components_of s))
   page_in_taken z = let n = sym (answer_number_lem c s) ∙ z in (taken_answer c s n, taken_collector c s n)
 
@@ -154,7 +151,7 @@ page_out_refused l k buffer =
 
 -- or it is written.
 pub page_out_written : (n : ℕ) (page buffer : List ℕ) → n ≡ 0
-    → (out_answer n page ≡ Written (length page)) × (out_buffer n page buffer ≡ sets buffer 0 page)
+    → (out_answer n page ≡ Ok (length page)) × (out_buffer n page buffer ≡ sets buffer 0 page)
 unfolding out_answer out_buffer
 page_out_written zero page buffer z = (refl, refl)
 page_out_written (suc n) page buffer z = absurd (omega arith)
@@ -171,16 +168,16 @@ lookup_some_number l b n e = answer_some (checked l (lookup_refusal b (view l)))
 
 -- The cases of a lookup.
 pub lookup_says_lem : (l : Layout) (b : ℕ)
-    → ((h : ObjectHome) → (lookup_says (LookupOut.Found h) ≡ lookup_of b l)
+    → ((h : ObjectHome) → (lookup_says (Ok h) ≡ lookup_of b l)
     ↔ ((valid l ≡ true) × (home_of b (view l) ≡ some (home_says h))))
-    × ((n : ℕ) → (lookup_says (LookupOut.Refused n) ≡ lookup_of b l) ↔ RefusedBy n (lookup_numbers l b))
+    × ((e : code.Refusal) → (lookup_says (Err e) ≡ lookup_of b l) ↔ RefusedBy (code_number e) (lookup_numbers l b))
 unfolding lookup_says
 lookup_says_lem l b = (
   λ h. (
     λ e. let v = lookup_valid l b (home_says h) (sym e) in (v, (lookup_gives l v b (home_says h)).0 (sym e)),
     λ p. sym ((lookup_gives l p.0 b (home_says h)).1 p.1),
   ),
-  refused_exactly (lookup_of b l) (lookup_numbers l b) (lookup_number_lem l b) (lookup_some_number l b),
+  λ e. refused_exactly (lookup_of b l) (lookup_numbers l b) (lookup_number_lem l b) (lookup_some_number l b) (code_number e),
 )
 
 -- A byte that is not hidden is below 2^64.
@@ -218,9 +215,9 @@ back_some_number l h n e = answer_some (checked l (back_refusal h (view l))) (by
 
 -- The cases of the way back.
 pub back_says_lem : (l : Layout) (o : Object) (p : ℕ)
-    → ((b : ℕ) → (back_says (BackOut.At b) ≡ back_of (in_object o p) l)
+    → ((b : ℕ) → (back_says (Ok b) ≡ back_of (in_object o p) l)
     ↔ ((valid l ≡ true) × (b < 2 ^ 64) × (home_of b (view l) ≡ some (in_object o p))))
-    × ((n : ℕ) → (back_says (BackOut.Refused n) ≡ back_of (in_object o p) l) ↔ RefusedBy n (back_numbers l o p))
+    × ((e : code.Refusal) → (back_says (Err e) ≡ back_of (in_object o p) l) ↔ RefusedBy (code_number e) (back_numbers l o p))
 unfolding back_says
 back_says_lem l o p =
     let h = in_object o p in (
@@ -229,7 +226,7 @@ back_says_lem l o p =
             (v.0, v.1, (lookup_gives l v.0 b h).0 (back_looked_up l h b (sym e))),
         λ q. sym (looked_up_back l b h q.1 ((lookup_gives l q.0 b h).1 q.2)),
       ),
-      refused_exactly (back_of h l) (back_numbers l o p) (back_number_lem l o p) (back_some_number l h),
+      λ e. refused_exactly (back_of h l) (back_numbers l o p) (back_number_lem l o p) (back_some_number l h) (code_number e),
     )
 
 -- Under 0 the lent numbers hold the pieces.
@@ -266,37 +263,35 @@ module _ (l : Layout) (a m : ℕ) (room : List ℕ) where
 
   -- The cases of cutting.
   pub cut_says_lem :
-      ((k : ℕ) → cut_says (CutOut.Pieces k) ≡ cut_of a m (length room) l
+      ((k : ℕ) → cut_says (Ok k) ≡ cut_of a m (length room) l
       → Cut a m k (view l) (cut_pieces a m (view l))
       × (cut_room l a m room ≡ sets room 0 (all_numbers (cut_pieces a m (view l)))))
-      × ((n : ℕ) → (cut_says (CutOut.Refused n) ≡ cut_of a m (length room) l)
-      ↔ RefusedBy n (cut_numbers l a m (length room)))
-      × ((n : ℕ) → cut_says (CutOut.Refused n) ≡ cut_of a m (length room) l → cut_room l a m room ≡ room)
+      × ((e : code.Refusal) → (cut_says (Err e) ≡ cut_of a m (length room) l)
+      ↔ RefusedBy (code_number e) (cut_numbers l a m (length room)))
+      × ((e : code.Refusal) → cut_says (Err e) ≡ cut_of a m (length room) l → cut_room l a m room ≡ room)
   unfolding cut_says
   cut_says_lem = (
     λ k e. (cut_right l a m (length room) k (sym e), cut_filled k (sym e)),
-    refused_exactly (cut_of a m (length room) l) (cut_numbers l a m (length room)) (cut_number_lem l a m (length room))
-        cut_some_number,
-    cut_refused,
+    λ e. refused_exactly (cut_of a m (length room) l) (cut_numbers l a m (length room))
+        (cut_number_lem l a m (length room)) cut_some_number (code_number e),
+    λ e. cut_refused (code_number e),
   )
 
 module _ (l : Layout) (k : Call) where
   -- The cases of growth: it is refused,
-  pub growth_refuses : (n : ℕ)
-      → ((grow_says (GrowOut.Refused n) ≡ (grow_of l k).answer) ↔ RefusedBy n (growth_numbers l k))
-      × (grow_says (GrowOut.Refused n) ≡ (grow_of l k).answer → Leaves l k (grow_of l k))
-  unfolding grow_says
-  growth_refuses n = (
-    refused_exactly (grow_of l k).answer (growth_numbers l k) (growth_number l k) (refused_some l k) n,
-    λ e. refusal_leaves l k n (sym e),
+  pub growth_refuses : (e : code.Refusal)
+      → ((grow_says (Err e) ≡ (grow_of l k).answer) ↔ RefusedBy (code_number e) (growth_numbers l k))
+      × (grow_says (Err e) ≡ (grow_of l k).answer → Leaves l k (grow_of l k))
+  growth_refuses e = (
+    refused_exactly (grow_of l k).answer (growth_numbers l k) (growth_number l k) (refused_some l k) (code_number e),
+    λ q. refusal_leaves l k (code_number e) (sym q),
   )
 
   -- or accepted.
-  pub growth_accepts : (e : Effect) → grow_says (GrowOut.Accepted e) ≡ (grow_of l k).answer
+  pub growth_accepts : (e : Effect) → grow_says (Ok e) ≡ (grow_of l k).answer
       → (e.home ≡ is_given (home_of k.offset (view (grow_of l k).layout)))
       × (e.changed ≡ false → (e.home ≡ true) × Leaves l k (grow_of l k))
       × (e.changed ≡ true → Changes l k (grow_of l k))
-  unfolding grow_says
   growth_accepts e q =
       let d : growing.Effect = record { home = e.home; changed = e.changed } in (
         answer_home l k d (sym q),

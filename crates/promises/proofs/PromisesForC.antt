@@ -5,23 +5,21 @@
 -- Each promise is in two parts. If the reading is refused by n, the call returns n and leaves all that is lent: "a
 -- refusal of that reading comes first". If it is not, the call returns and stores what the public call of that name
 -- answers of the layout that was read, by the definitions that `Promises` names. What is in quotes is document 01's.
-use Rattle.std.specs.Prelude.{ℕ, ◌≤◌, ◌<◌, ◌≡◌, List, [], ◌∷◌, true, cond, length}
+use Rattle.std.specs.Prelude.{ℕ, ◌≤◌, ◌<◌, ◌≡◌, Ok, Err, List, [], ◌∷◌, true, cond, length}
 use Rattle.std.proofs.lemmas.List.Edits.{sets}
+use Rattle.refusals.specs.declared.Refusal.{Refusal}
+use Rattle.refusals.specs.Refusals.{number_of}
+use Rattle.refusals.specs.Numbered.{numbered}
 use Rattle.layout.specs.Records.{view}
 use Rattle.layout.specs.Rules.{valid}
-use Rattle.paging.specs.declared.PageOut.TheVariants as PageOut
 use Rattle.paging.specs.Paging.{written_page, out_refusal, out_answer}
 use Rattle.mapping.specs.declared.ObjectHome.{ObjectHome}
-use Rattle.mapping.specs.declared.LookupOut.TheVariants as LookupOut
-use Rattle.mapping.specs.declared.BackOut.TheVariants as BackOut
-use Rattle.mapping.specs.declared.CutOut.TheVariants as CutOut
 use Rattle.mapping.specs.Homes.{Home}
 use Rattle.mapping.specs.Lookup.{lookup_says, lookup_of}
 use Rattle.mapping.specs.Back.{back_says, back_of}
 use Rattle.mapping.specs.Cutting.{cut_pieces, all_numbers, cut_says, cut_of}
 use Rattle.growth.specs.declared.Effect.{Effect}
-use Rattle.growth.specs.declared.GrowOut.TheVariants as GrowOut
-use Rattle.growth.specs.Answers.{grow_says}
+use Rattle.moorsickle.specs.Answers.{grow_says}
 use Rattle.gateway.specs.Host.{host_reading, host_layout, lookup_number, home_after, back_number, offset_after}
 use Rattle.gateway.specs.Host.{cut_number, pieces_after, count_after, page_number, buffer_after, written_after}
 use Rattle.gateway.proofs.HostLaws as host
@@ -40,8 +38,8 @@ pub c_lookup : (pages : List ℕ) (b : ℕ) (home : List ℕ)
     let answer = lookup_of b (host_layout pages) in
     ((n : ℕ) → 0 < n → (host_reading pages).refusal ≡ n → (number ≡ n) × (after ≡ home))
     × ((host_reading pages).refusal ≡ 0
-    → ((n : ℕ) → lookup_says (LookupOut.Refused n) ≡ answer → (number ≡ n) × (after ≡ home))
-    × ((h : ObjectHome) → lookup_says (LookupOut.Found h) ≡ answer
+    → ((e : Refusal) → lookup_says (Err e) ≡ answer → (number ≡ number_of e) × (after ≡ home))
+    × ((h : ObjectHome) → lookup_says (Ok h) ≡ answer
     → (number ≡ 0) × (after ≡ h.target ∷ h.number ∷ h.byte ∷ [])))
 c_lookup = calls.c_lookup
 
@@ -52,8 +50,8 @@ pub c_back : (pages : List ℕ) (h : Home) (offset : ℕ)
     let answer = back_of h (host_layout pages) in
     ((n : ℕ) → 0 < n → (host_reading pages).refusal ≡ n → (number ≡ n) × (after ≡ offset))
     × ((host_reading pages).refusal ≡ 0
-    → ((n : ℕ) → back_says (BackOut.Refused n) ≡ answer → (number ≡ n) × (after ≡ offset))
-    × ((b : ℕ) → back_says (BackOut.At b) ≡ answer → (number ≡ 0) × (after ≡ b)))
+    → ((e : Refusal) → back_says (Err e) ≡ answer → (number ≡ number_of e) × (after ≡ offset))
+    × ((b : ℕ) → back_says (Ok b) ≡ answer → (number ≡ 0) × (after ≡ b)))
 c_back = calls.c_back
 
 -- `moorsickle_cut` of the m bytes from offset a: the lent numbers then hold the pieces, and the count is theirs.
@@ -64,8 +62,8 @@ pub c_cut : (pages : List ℕ) (a m : ℕ) (room : List ℕ) (count : ℕ)
     let answer = cut_of a m (length room) (host_layout pages) in
     ((n : ℕ) → 0 < n → (host_reading pages).refusal ≡ n → (number ≡ n) × (pieces ≡ room) × (counted ≡ count))
     × ((host_reading pages).refusal ≡ 0
-    → ((n : ℕ) → cut_says (CutOut.Refused n) ≡ answer → (number ≡ n) × (pieces ≡ room) × (counted ≡ count))
-    × ((k : ℕ) → cut_says (CutOut.Pieces k) ≡ answer
+    → ((e : Refusal) → cut_says (Err e) ≡ answer → (number ≡ number_of e) × (pieces ≡ room) × (counted ≡ count))
+    × ((k : ℕ) → cut_says (Ok k) ≡ answer
     → (number ≡ 0) × (pieces ≡ sets room 0 (all_numbers (cut_pieces a m (view (host_layout pages))))) × (counted ≡ k)))
 c_cut = calls.c_cut
 
@@ -78,8 +76,8 @@ pub c_page : (pages : List ℕ) (k : ℕ) (buffer : List ℕ) (written : ℕ)
     let answer = out_answer (out_refusal (host_layout pages) k (length buffer)) page in
     ((n : ℕ) → 0 < n → (host_reading pages).refusal ≡ n → (number ≡ n) × (after ≡ buffer) × (counted ≡ written))
     × ((host_reading pages).refusal ≡ 0
-    → ((n : ℕ) → PageOut.Refused n ≡ answer → (number ≡ n) × (after ≡ buffer) × (counted ≡ written))
-    × ((m : ℕ) → PageOut.Written m ≡ answer → (number ≡ 0) × (after ≡ sets buffer 0 page) × (counted ≡ m)))
+    → ((e : Refusal) → numbered (Err e) ≡ answer → (number ≡ number_of e) × (after ≡ buffer) × (counted ≡ written))
+    × ((m : ℕ) → numbered (Ok m) ≡ answer → (number ≡ 0) × (after ≡ sets buffer 0 page) × (counted ≡ m)))
 c_page = calls.c_page
 
 -- `moorsickle_grow`, with the words of the free table, the bytes lent for the new pages and the two numbers of the
@@ -96,9 +94,9 @@ pub c_grow : (pages : List ℕ) (offset mark : ℕ) (table grown numbers : List 
     ((n : ℕ) → 0 < n → (host_reading pages).refusal ≡ n
     → (number ≡ n) × (words ≡ table) × (bytes ≡ grown) × (told ≡ numbers))
     × ((host_reading pages).refusal ≡ 0
-    → ((n : ℕ) → grow_says (GrowOut.Refused n) ≡ o.answer
-    → (number ≡ n) × (words ≡ table) × (bytes ≡ grown) × (told ≡ numbers))
-    × ((e : Effect) → grow_says (GrowOut.Accepted e) ≡ o.answer
+    → ((e : Refusal) → grow_says (Err e) ≡ o.answer
+    → (number ≡ number_of e) × (words ≡ table) × (bytes ≡ grown) × (told ≡ numbers))
+    × ((e : Effect) → grow_says (Ok e) ≡ o.answer
     → (length grown < length new → (number ≡ 20) × (words ≡ table) × (bytes ≡ grown) × (told ≡ numbers))
     × (length new ≤ length grown
     → (number ≡ 0) × (words ≡ with_next_words table o.table) × (word_table (with_next_words table o.table) ≡ o.table)

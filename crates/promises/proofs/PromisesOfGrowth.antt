@@ -1,5 +1,5 @@
 -- The promises on growth, beside those of `Promises`, which says how to read this. The contract of `moorsickle::grow`
--- is `grow_says r.out ≡ (grow_of l k).answer`, and the layout and the table afterwards are those of `grow_of l k`. What
+-- is `grow_says r ≡ (grow_of l k).answer`, and the layout and the table afterwards are those of `grow_of l k`. What
 -- is in quotes is document 01's.
 use Rattle.std.specs.Prelude.{ℕ, ◌+◌, ◌≤◌, ◌<◌, ◌≡◌, List, [], ◌∷◌, map, true, false, length, get_or}
 use Rattle.std.proofs.Math.Option.{some}

@@ -1,7 +1,7 @@
 -- The promises on pages in and the layout out of a collector, beside those of `Promises`, which says how to read this.
 -- The contracts of `moorsickle::take_page` and `layout_of` give `page_in` and `layout_out`. What is in quotes is document
 -- 01's.
-use Rattle.std.specs.Prelude.{ℕ, ◌≤◌, ◌<◌, ◌≡◌, List, true, false, cond, length}
+use Rattle.std.specs.Prelude.{ℕ, ◌≤◌, ◌<◌, ◌≡◌, Ok, List, true, false, cond, length}
 use Rattle.layout.specs.Records.{packed, no_layout}
 use Rattle.layout.specs.Facts.{Keeps}
 use Rattle.page.specs.Content.{head_of, components_of}
@@ -32,13 +32,13 @@ page_in_keeps = collecting.refused_collector
 -- and one that is not is taken: "An accepted page answers "more wanted" or "complete"", by its own flag, and its
 -- components are after those that were gathered.
 pub page_in_taken : (c : Collector) (s : List ℕ) → number_of (page_in c s).answer ≡ 0
-    → ((page_in c s).answer ≡ cond (head_of s).more More Complete)
+    → ((page_in c s).answer ≡ Ok (cond (head_of s).more More Complete))
     × ((page_in c s).collector ≡ added c (head_of s) (components_of s))
 page_in_taken = calls.page_in_taken
 
 -- After the answer "more wanted" pages are outstanding: what was gathered is refused by every call that takes a layout
 -- (`Promises: outstanding_refused`).
-pub page_in_more : (c : Collector) (s : List ℕ) → (page_in c s).answer ≡ More
+pub page_in_more : (c : Collector) (s : List ℕ) → (page_in c s).answer ≡ Ok More
     → (page_in c s).collector.layout.complete ≡ false
 page_in_more = collecting.more_outstanding
 
@@ -61,7 +61,7 @@ pub any_paging : (g : ℕ) (ps : List (List ℕ)) → ArePages g 0 ps → some_p
     → Keeps false (components_in ps)
     → read_pages new_collector ps
     ≡ record {
-      answer = Complete;
+      answer = Ok Complete;
       collector = record { pages = length ps; layout = packed g (components_in ps) };
     }
 any_paging = anyhow.any_paging

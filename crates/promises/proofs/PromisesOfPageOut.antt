@@ -1,9 +1,8 @@
 -- The promises on a page out, beside `page_out` of `Promises`, which says how to read this. The contract of
 -- `moorsickle::page_out` gives `out_answer` and `out_buffer` under `out_refusal`. What is in quotes is document 01's.
-use Rattle.std.specs.Prelude.{ℕ, ◌<◌, ◌≡◌, List, length}
+use Rattle.std.specs.Prelude.{ℕ, ◌<◌, ◌≡◌, Ok, List, length}
 use Rattle.std.proofs.lemmas.List.Edits.{sets}
 use Rattle.layout.specs.declared.Layout.{Layout}
-use Rattle.paging.specs.declared.PageOut.TheVariants as PageOut
 use Rattle.paging.specs.Paging.{out_refusal, out_answer, out_number, out_buffer}
 use Rattle.paging.specs.PagingLaws as paging
 use Rattle.promises.specs.Numbers.{IsFirst}
@@ -25,5 +24,5 @@ page_out_keeps = numbers.buffer_kept
 
 -- and under 0 the answer is the length of the page, which is in the first bytes; "buffer bytes past it stay".
 pub page_out_written : (n : ℕ) (page buffer : List ℕ) → n ≡ 0
-    → (out_answer n page ≡ PageOut.Written (length page)) × (out_buffer n page buffer ≡ sets buffer 0 page)
+    → (out_answer n page ≡ Ok (length page)) × (out_buffer n page buffer ≡ sets buffer 0 page)
 page_out_written = calls.page_out_written

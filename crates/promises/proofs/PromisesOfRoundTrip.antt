@@ -1,13 +1,12 @@
 -- The promises on whole layouts written and read, beside `written_given_back` and `read_written_again` of `Promises`,
 -- which says how to read this. What is in quotes is document 01's.
-use Rattle.std.specs.Prelude.{ℕ, ◌≡◌, List, true, length}
+use Rattle.std.specs.Prelude.{ℕ, ◌≡◌, Ok, List, true, length}
 use Rattle.bytes_le.specs.Numbers.{AreBytes}
 use Rattle.layout.specs.declared.Layout.{Layout}
 use Rattle.layout.specs.Rules.{valid}
-use Rattle.collector.specs.declared.Reading.{Reading}
 use Rattle.collector.specs.declared.Answer.TheVariants.{Complete}
 use Rattle.collector.specs.Collector.{new_collector}
-use Rattle.collector.specs.Runs.{read_run, host_cut, listed_cut}
+use Rattle.collector.specs.Runs.{Reading, read_run, host_cut, listed_cut}
 use Rattle.round_trip.specs.Pages.{read_pages, written_pages, blanked, paged_by_rule, InMemory}
 use Rattle.round_trip.specs.Pages.{back_to_back, listed, FromPages}
 use Rattle.round_trip.specs.WriteThenRead as writing
@@ -19,7 +18,7 @@ use Rattle.round_trip.specs.RunsRead.{run_written_again, host_run_pages, listed_
 pub written_read_back : (l : Layout) → valid l ≡ true → InMemory l
     → read_pages new_collector (written_pages l)
     ≡ record {
-      answer = Complete;
+      answer = Ok Complete;
       collector = record { pages = length (written_pages l); layout = blanked l };
     }
 written_read_back = writing.written_read_back

@@ -1,5 +1,5 @@
 -- What the entry points for C return and leave in lent memory: what the public calls say of the layout that was read.
-use Rattle.std.specs.Prelude.{ℕ, zero, suc, ◌≤◌, ◌<◌, ◌≡◌, refl, List, [], ◌∷◌}
+use Rattle.std.specs.Prelude.{ℕ, zero, suc, ◌≤◌, ◌<◌, ◌≡◌, refl, Ok, Err, List, [], ◌∷◌}
 use Rattle.std.proofs.Math.Path.{sym, ap}
 use Rattle.std.proofs.Common.{◌∙◌, arith, le-leb}
 use Rattle.std.proofs.Math.Option.{some}
@@ -7,12 +7,11 @@ use Rattle.std.proofs.Math.Bool.{cond}
 use Rattle.std.proofs.Math.ListN.{length}
 use Rattle.std.proofs.Math.Seq.{sets}
 use Rattle.std.proofs.lemmas.Bool.{lt-leb}
-use Rattle.paging.specs.declared.PageOut.TheVariants as PageOut
-use Rattle.paging.specs.Paging.{written_page, write_refusal, out_refusal, out_answer, out_number}
+use Rattle.refusals.specs.declared.Refusal.{Refusal}
+use Rattle.refusals.specs.Refusals.{number_of}
+use Rattle.refusals.specs.Numbered.{numbered}
+use Rattle.paging.specs.Paging.{written_page, write_refusal, out_refusal, out_answer}
 use Rattle.mapping.specs.declared.ObjectHome.{ObjectHome}
-use Rattle.mapping.specs.declared.LookupOut.TheVariants as LookupOut
-use Rattle.mapping.specs.declared.BackOut.TheVariants as BackOut
-use Rattle.mapping.specs.declared.CutOut.TheVariants as CutOut
 use Rattle.mapping.specs.Answers.{gives, refuses, answer, answer_number}
 use Rattle.mapping.specs.AnswerLaws.{gives_or_refuses, answer_gives}
 use Rattle.mapping.specs.Homes.{Home, home_of}
@@ -24,15 +23,13 @@ use Rattle.growth_rules.specs.Steps.{Call}
 use Rattle.growth_rules.specs.Growing as growing
 use Rattle.growth_rules.specs.Growing.{Outcome}
 use Rattle.growth.specs.declared.Effect.{Effect}
-use Rattle.growth.specs.declared.GrowOut.TheVariants as GrowOut
-use Rattle.growth.specs.Answers.{grow_says}
+use Rattle.moorsickle.specs.Answers.{grow_says}
 use Rattle.gateway.specs.Host.{host_reading, host_layout, host_components, reading_first, lent_after, home_numbers}
 use Rattle.gateway.specs.Host.{lookup_number, home_after, back_number, offset_after, cut_number, pieces_after, count_after}
 use Rattle.gateway.specs.Host.{page_number, buffer_after, written_after}
 use Rattle.gateway.proofs.HostLaws.{reading_number, own_number, lent_stays, lookup_same, back_same, cut_same, page_same}
 use Rattle.gateway.specs.HostGrowth.{word_table, with_next_words, host_grown, pages_of, room_number, later_number, home_number}
 use Rattle.gateway.specs.HostGrowth.{grow_number, table_after, grown_after, answer_after}
-use Rattle.gateway.specs.LentWords.{written_length}
 use Rattle.gateway.proofs.HostGrowthLaws.{words_afterwards}
 
 -- A refusal of the reading comes first.
@@ -76,17 +73,17 @@ module _ (pages : List ℕ) (b : ℕ) (home : List ℕ) where
   pub c_lookup :
       ((n : ℕ) → 0 < n → (host_reading pages).refusal ≡ n → (lookup_number pages b ≡ n) × (home_after pages b home ≡ home))
       × ((host_reading pages).refusal ≡ 0
-      → ((n : ℕ) → lookup_says (LookupOut.Refused n) ≡ lookup_of b (host_layout pages)
-      → (lookup_number pages b ≡ n) × (home_after pages b home ≡ home))
-      × ((h : ObjectHome) → lookup_says (LookupOut.Found h) ≡ lookup_of b (host_layout pages)
+      → ((e : Refusal) → lookup_says (Err e) ≡ lookup_of b (host_layout pages)
+      → (lookup_number pages b ≡ number_of e) × (home_after pages b home ≡ home))
+      × ((h : ObjectHome) → lookup_says (Ok h) ≡ lookup_of b (host_layout pages)
       → (lookup_number pages b ≡ 0) × (home_after pages b home ≡ h.target ∷ h.number ∷ h.byte ∷ [])))
   unfolding lookup_says
   c_lookup = (
     λ n h e. lookup_kept n h (lookup_first n h e),
     λ z. (
-      λ n e. let found = home_of b (host_components pages) in
-          let u = refuses_under n (lookup_number pages b) found (e ∙ lookup_same pages z b) in
-          lookup_kept n u.1 u.0,
+      λ r e. let found = home_of b (host_components pages) in
+          let u = refuses_under (number_of r) (lookup_number pages b) found (e ∙ lookup_same pages z b) in
+          lookup_kept (number_of r) u.1 u.0,
       λ h e. lookup_found z (home_says h) e,
     ),
   )
@@ -115,16 +112,17 @@ module _ (pages : List ℕ) (h : Home) (offset : ℕ) where
       ((n : ℕ) → 0 < n → (host_reading pages).refusal ≡ n
       → (back_number pages h ≡ n) × (offset_after pages h offset ≡ offset))
       × ((host_reading pages).refusal ≡ 0
-      → ((n : ℕ) → back_says (BackOut.Refused n) ≡ back_of h (host_layout pages)
-      → (back_number pages h ≡ n) × (offset_after pages h offset ≡ offset))
-      × ((b : ℕ) → back_says (BackOut.At b) ≡ back_of h (host_layout pages)
+      → ((e : Refusal) → back_says (Err e) ≡ back_of h (host_layout pages)
+      → (back_number pages h ≡ number_of e) × (offset_after pages h offset ≡ offset))
+      × ((b : ℕ) → back_says (Ok b) ≡ back_of h (host_layout pages)
       → (back_number pages h ≡ 0) × (offset_after pages h offset ≡ b)))
   unfolding back_says
   c_back = (
     λ n p e. back_kept n p (back_first n p e),
     λ z. (
-      λ n e. let u = refuses_under n (back_number pages h) (byte_of h (host_components pages)) (e ∙ back_same pages z h) in
-          back_kept n u.1 u.0,
+      λ r e. let found = byte_of h (host_components pages) in
+          let u = refuses_under (number_of r) (back_number pages h) found (e ∙ back_same pages z h) in
+          back_kept (number_of r) u.1 u.0,
       λ b e. back_found z b e,
     ),
   )
@@ -165,8 +163,8 @@ module _ (pages : List ℕ) (a m : ℕ) (room : List ℕ) (count : ℕ) where
   pub c_cut :
       ((n : ℕ) → 0 < n → (host_reading pages).refusal ≡ n → CutKept n)
       × ((host_reading pages).refusal ≡ 0
-      → ((n : ℕ) → cut_says (CutOut.Refused n) ≡ cut_of a m (length room) (host_layout pages) → CutKept n)
-      × ((k : ℕ) → cut_says (CutOut.Pieces k) ≡ cut_of a m (length room) (host_layout pages)
+      → ((e : Refusal) → cut_says (Err e) ≡ cut_of a m (length room) (host_layout pages) → CutKept (number_of e))
+      × ((k : ℕ) → cut_says (Ok k) ≡ cut_of a m (length room) (host_layout pages)
       → (cut_number pages a m room ≡ 0)
       × (pieces_after pages a m room ≡ sets room 0 (all_numbers (cut_pieces a m (host_components pages))))
       × (count_after pages a m room count ≡ k)))
@@ -174,24 +172,24 @@ module _ (pages : List ℕ) (a m : ℕ) (room : List ℕ) (count : ℕ) where
   c_cut = (
     λ n h e. cut_kept n h (cut_first n h e),
     λ z. (
-      λ n e. let u = refuses_under n (cut_number pages a m room) (cut_count a m (host_components pages))
+      λ r e. let u = refuses_under (number_of r) (cut_number pages a m room) (cut_count a m (host_components pages))
           (e ∙ cut_same pages z a m room) in
-          cut_kept n u.1 u.0,
+          cut_kept (number_of r) u.1 u.0,
       λ k e. cut_given z k e,
     ),
   )
 
 -- The answer of a page out that is refused has its number, which is not 0;
-out_refused : (n m : ℕ) (page : List ℕ) → PageOut.Refused n ≡ out_answer m page → (m ≡ n) × (0 < n)
-unfolding out_answer out_number
-out_refused n zero page e = let z : ◌≡◌ {A = ℕ} 0 1 = cc in absurd (omega arith)
-out_refused n (suc m) page e = let same : n ≡ suc m = ap out_number e in (sym same, omega arith)
+out_refused : (n m : ℕ) (page : List ℕ) → Err n ≡ out_answer m page → (m ≡ n) × (0 < n)
+unfolding out_answer
+out_refused n zero page e = cc
+out_refused n (suc m) page e = let same : n ≡ suc m = cc in (sym same, omega arith)
 
 -- one that is not refused has the length of the page.
-out_given : (k m : ℕ) (page : List ℕ) → PageOut.Written k ≡ out_answer m page → (m ≡ 0) × (length page ≡ k)
+out_given : (k m : ℕ) (page : List ℕ) → Ok k ≡ out_answer m page → (m ≡ 0) × (length page ≡ k)
 unfolding out_answer
-out_given k zero page e = (refl, sym (ap written_length e))
-out_given k (suc m) page e = let z : ◌≡◌ {A = ℕ} 0 1 = cc in absurd (omega arith)
+out_given k zero page e = (refl, cc)
+out_given k (suc m) page e = cc
 
 module _ (pages : List ℕ) (k : ℕ) (buffer : List ℕ) (written : ℕ) where
   -- The call returns n, and leaves what was lent.
@@ -212,7 +210,7 @@ module _ (pages : List ℕ) (k : ℕ) (buffer : List ℕ) (written : ℕ) where
   page_first n h e = first_refused pages (write_refusal (host_layout pages) k (length buffer)) n h e
 
   page_given : (host_reading pages).refusal ≡ 0 → (m : ℕ)
-      → PageOut.Written m ≡ out_answer (out_refusal (host_layout pages) k (length buffer))
+      → Ok m ≡ out_answer (out_refusal (host_layout pages) k (length buffer))
       (written_page (host_layout pages) k)
       → (page_number pages k buffer ≡ 0)
       × (buffer_after pages k buffer ≡ sets buffer 0 (written_page (host_layout pages) k))
@@ -228,12 +226,12 @@ module _ (pages : List ℕ) (k : ℕ) (buffer : List ℕ) (written : ℕ) where
   pub c_page :
       ((n : ℕ) → 0 < n → (host_reading pages).refusal ≡ n → PageKept n)
       × ((host_reading pages).refusal ≡ 0
-      → ((n : ℕ)
-      → PageOut.Refused n ≡ out_answer (out_refusal (host_layout pages) k (length buffer))
+      → ((e : Refusal)
+      → numbered (Err e) ≡ out_answer (out_refusal (host_layout pages) k (length buffer))
       (written_page (host_layout pages) k)
-      → PageKept n)
+      → PageKept (number_of e))
       × ((m : ℕ)
-      → PageOut.Written m ≡ out_answer (out_refusal (host_layout pages) k (length buffer))
+      → numbered (Ok m) ≡ out_answer (out_refusal (host_layout pages) k (length buffer))
       (written_page (host_layout pages) k)
       → (page_number pages k buffer ≡ 0)
       × (buffer_after pages k buffer ≡ sets buffer 0 (written_page (host_layout pages) k))
@@ -241,9 +239,9 @@ module _ (pages : List ℕ) (k : ℕ) (buffer : List ℕ) (written : ℕ) where
   c_page = (
     λ n h e. page_kept n h (page_first n h e),
     λ z. (
-      λ n e. let l = host_layout pages in
-          let u = out_refused n (out_refusal l k (length buffer)) (written_page l k) e in
-          page_kept n u.1 (sym (page_same pages z k buffer) ∙ u.0),
+      λ r e. let l = host_layout pages in
+          let u = out_refused (number_of r) (out_refusal l k (length buffer)) (written_page l k) e in
+          page_kept (number_of r) u.1 (sym (page_same pages z k buffer) ∙ u.0),
       λ m e. page_given z m e,
     ),
   )
@@ -317,19 +315,18 @@ module _ (pages : List ℕ) (offset mark : ℕ) (table grown answers : List ℕ)
   pub c_grow :
       ((n : ℕ) → 0 < n → (host_reading pages).refusal ≡ n → GrowKept n)
       × ((host_reading pages).refusal ≡ 0
-      → ((n : ℕ) → grow_says (GrowOut.Refused n) ≡ out.answer → GrowKept n)
-      × ((e : Effect) → grow_says (GrowOut.Accepted e) ≡ out.answer
+      → ((e : Refusal) → grow_says (Err e) ≡ out.answer → GrowKept (number_of e))
+      × ((e : Effect) → grow_says (Ok e) ≡ out.answer
       → (length grown < length (pages_of out.layout) → GrowKept 20)
       × (length (pages_of out.layout) ≤ length grown
       → (number ≡ 0) × (table_after number table out ≡ with_next_words table out.table)
       × (word_table (with_next_words table out.table) ≡ out.table)
       × (grown_after number grown out ≡ sets grown 0 (pages_of out.layout))
       × (answer_after number answers out ≡ sets answers 0 (length (pages_of out.layout) ∷ cond e.home 1 0 ∷ [])))))
-  unfolding grow_says
   c_grow = (
     λ n h e. grow_kept n h (grow_first n h e),
     λ z. (
-      λ n e. grow_refused z n e,
+      λ r e. grow_refused z (number_of r) e,
       λ e q. let d : growing.Effect = record { home = e.home; changed = e.changed } in (
         λ h. grow_kept 20 (omega arith)
             (grow_accepted z d q ∙ rw (lt-leb (length (pages_of out.layout)) (length grown) h)),

@@ -1,4 +1,5 @@
 pub mod Numbers
+pub mod RefusalNumbers
 pub mod Calls
 pub mod LookupLaws
 pub mod GrowthLaws

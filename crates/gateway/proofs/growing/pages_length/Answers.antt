@@ -1,36 +1,29 @@
--- `gateway::growing::pages_length` meets its contract: all bytes are those so far and those from page k on.
-use Prim.Native.Nat.{◌+◌}
-use mathlib.Core.Path.{◌≡◌, ap, ◌∙◌}
-use native.Mathlib.Omega.{arith}
-use lib.ListN.{length, length-append}
-use borrow.Author.Rules.{rules}
-use Rattle.gateway.specs.LentWords.{page_if, pages_from}
-use Rattle.gateway.specs.PageRunLaws.{pages_start, pages_end, pages_none, pages_next}
+-- `gateway::growing::pages_length`: each turn adds the length of a page; there is no page after the last.
+use Rattle.std.proofs.Common.{ap, arith, inr, ◌+◌, length, length-append, replicate}
+use Rattle.paging.specs.Paging.{written_page}
+use Rattle.gateway.specs.LentWords.{pages_from}
+use Rattle.gateway.specs.PageRunLaws.{pages_start, pages_end, page_wrote, page_missing}
 use Rattle.gateway.proofs.growing.pages_length.Goals as goal
 
 pub loop-k-init : goal.loop-k-init
-loop-k-init c = (search rules, search rules, omega (arith, ap length (pages_start c.args.l)))
+loop-k-init c = (omega arith, omega (arith, ap length (pages_start c.args.l)))
 
-pub returns-then-n-eq0 : goal.returns-then-n-eq0
-returns-then-n-eq0 c =
-    let n = c in
-    let p = n in
-    let l = p.args.l in
-    let z : length (page_if l p.loop-k.k) ≡ 0 = omega (arith, n.page_length-n.ensures.0) in
-    omega (arith, ap length (pages_none l p.loop-k.k (omega arith) z))
+pub overflow_add-bytes : goal.overflow_add-bytes
+overflow_add-bytes c =
+    let w = page_wrote c.args.l c.loop-k.k c.loop-k-test.true (replicate 512 0) c.in-Ok.n c.in-Ok.ensures.0 in
+    record { fits = omega arith }
 
 pub loop-k-preserved : goal.loop-k-preserved
 loop-k-preserved c =
-    let n = c in
-    let p = n in
-    let l = p.args.l in
-    let k = p.loop-k.k in
-    let q = pages_next l k (omega arith) (omega (arith, n.page_length-n.ensures.0, c.if-n-eq0.false)) in
-    let m : length (pages_from l k) ≡ length (page_if l k) + length (pages_from l (k + 1)) =
-    ap length q ∙ length-append (page_if l k) (pages_from l (k + 1)) in
-    (omega arith, omega arith, omega (arith, n.page_length-n.ensures.0))
+    let l = c.args.l in
+    let k = c.loop-k.k in
+    let w = page_wrote l k c.loop-k-test.true (replicate 512 0) c.in-Ok.n c.in-Ok.ensures.0 in
+    (omega arith, omega (arith, ap length w.2, length-append (written_page l k) (pages_from l (k + 1))))
 
-pub returns : goal.returns
-returns c =
-    let p = c in
-    omega (arith, ap length (pages_end p.args.l p.loop-k.k (omega arith)))
+pub returns-after-loop-k : goal.returns-after-loop-k
+returns-after-loop-k c = omega (arith, ap length (pages_end c.args.l c.loop-k.k c.loop-k-test.false))
+
+pub returns-in_default : goal.returns-in_default
+returns-in_default c =
+    let m = page_missing c.args.l c.loop-k.k c.loop-k-test.true (replicate 512 0) _ (inr (omega arith)) c.in_default.ensures.0 in
+    omega (arith, ap length m.0)

@@ -1,0 +1,46 @@
+-- `gateway::page` meets its contract: a refusal of the reading comes first; else `write_page` writes the page of the layout
+-- that is read, and its number of bytes is stored.
+use Rattle.std.proofs.Common.{◌∙◌, sym, length}
+use Rattle.std.proofs.lemmas.Result.{err_from_is_err_and}
+use Rattle.paging.specs.Paging.{write_refusal}
+use Rattle.gateway.specs.Host.{host_layout, page_number, buffer_after, written_after}
+use Rattle.gateway.specs.LentAnswers.{page_stored, page_kept}
+use Rattle.gateway.proofs.HostLaws.{host_valid, own_number, buffer_lent}
+use Rattle.gateway.proofs.FoundLaws.{refused_by}
+use Rattle.gateway.proofs.page.Goals as goal
+
+pub returns-in_err-l : goal.returns-in_err-l
+unfolding page_number buffer_after written_after
+returns-in_err-l c =
+    let p = err_from_is_err_and c.from_residual.result c.from_residual.ensures.1 in
+    let f = refused_by _ c.in_err-l.ensures.number in
+    rw (p.1, p.2) (f.number _, f.lent _ _ _, f.lent _ _ _)
+
+pub write_page-requires : goal.write_page-requires
+write_page-requires c =
+    let l = c.in_ok-l.ensures in
+    rw l.layout (host_valid c.args.pages.now (sym l.number))
+
+pub returns-in_err-written : goal.returns-in_err-written
+unfolding page_number buffer_after written_after
+returns-in_err-written c =
+    let r = c.from_residual-in_err-written in
+    let p = err_from_is_err_and r.result r.ensures.1 in
+    let a = c.args in
+    let l = c.in_ok-l.ensures in
+    let own = own_number a.pages.now (write_refusal (host_layout a.pages.now) a.number (length a.buffer.now)) (sym l.number) in
+    let answer = rw l.layout at c.in_err-written.ensures.0 in
+    let after = rw l.layout at c.in_err-written.ensures.1 in
+    let kept = page_kept a.written.now _ _ _ answer in
+    rw (p.1, p.2, own) (kept.0, after ∙ buffer_lent _ _ a.buffer.now, kept.1)
+
+pub returns : goal.returns
+unfolding page_number buffer_after written_after
+returns c =
+    let a = c.args in
+    let l = c.in_ok-l.ensures in
+    let own = own_number a.pages.now (write_refusal (host_layout a.pages.now) a.number (length a.buffer.now)) (sym l.number) in
+    let answer = rw l.layout at c.in_ok-written.ensures.0 in
+    let after = rw l.layout at c.in_ok-written.ensures.1 in
+    let stored = page_stored a.written.now _ _ _ answer in
+    rw own (stored.0, after ∙ buffer_lent _ _ a.buffer.now, stored.1)

@@ -7,6 +7,9 @@ use bytes_le::LittleEndian;
 use layout::Layout;
 use refusals::Refusal;
 
+// "a length above 512, gives 3".
+const MOST_LENGTH: usize = 512;
+
 // What reading a run gives: the number of pages, and the layout.
 #[derive(Clone, Copy)]
 pub struct Reading {
@@ -33,7 +36,7 @@ fn next_page(s: &[u8]) -> Result<(&[u8], &[u8]), Refusal>
     }
     let length = usize::from(u16::read_at(s, 0));
     let rest = &s[2..];
-    if 512 < length || rest.len() < length {
+    if MOST_LENGTH < length || rest.len() < length {
         return Err(Refusal::Form);
     }
     Ok(rest.split_at(length))

@@ -6,6 +6,9 @@ ghost use Rattle.page.specs.Walked.{Walks, Walked};
 
 use bytes_le::{LittleEndian, flags};
 
+// "A page has 16 to 512 bytes".
+const MOST_BYTES: usize = 512;
+
 // Has the object record at the place its form?
 #[tactic(auto, unfolding(crate::specs::Form::object_form))]
 fn object_form(s: &[u8], at: usize) -> bool
@@ -124,5 +127,5 @@ pub fn walk_page(s: &[u8], places: &mut [usize; 16]) -> bool
     ensures { (result ≡ page_form s.now)
         × (page_form s.now ≡ true → Walked s.now places.new) }
 {
-    s.len() <= 512 && walk(s, s.len(), 0, 0, places) == Some(s.len())
+    s.len() <= MOST_BYTES && walk(s, s.len(), 0, 0, places) == Some(s.len())
 }

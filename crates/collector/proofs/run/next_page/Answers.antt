@@ -10,7 +10,7 @@ use Rattle.std.proofs.lemmas.List.{take_rest}
 use Rattle.bytes_le.specs.Numbers.{u16_at}
 use Rattle.collector.proofs.CutLaws.{listed_ended, listed_cut_lem, listed_long, listed_short, listed_next}
 use Rattle.collector.proofs.run.next_page.Goals as goal
-use Rattle.collector.proofs.run.next_page.Goals.{then-length-gt512-via-then-length-gt512, then-length-gt512-via-else-length-gt512+then-rest-length}
+use Rattle.collector.proofs.run.next_page.Goals.{then-length-gt-MOST_LENGTH-via-then-length-gt-MOST_LENGTH, then-length-gt-MOST_LENGTH-via-else-length-gt-MOST_LENGTH+then-rest-length}
 
 pub returns-then-is_empty : goal.returns-then-is_empty
 returns-then-is_empty c =
@@ -22,14 +22,14 @@ returns-then-s-lt2 c =
     let n : 0 < length c.args.s.now = search (rules, tests) in
     rw (listed_cut_lem c.args.s.now n c.if-s-lt2.true)
 
-pub returns-then-length-gt512 : goal.returns-then-length-gt512
-returns-then-length-gt512 c =
+pub returns-then-length-gt-MOST_LENGTH : goal.returns-then-length-gt-MOST_LENGTH
+returns-then-length-gt-MOST_LENGTH c =
     let s = c.args.s.now in
     let n : 0 < length s = omega arith in
     let w : c.from-length.result ≡ u16_at s 0 = cc in
-    elim c.then-length-gt512.branch [
-      | then-length-gt512-via-then-length-gt512 w ↦ rw (listed_long s n (omega arith) (omega arith))
-      | then-length-gt512-via-else-length-gt512+then-rest-length w ↦
+    elim c.then-length-gt-MOST_LENGTH.branch [
+      | then-length-gt-MOST_LENGTH-via-then-length-gt-MOST_LENGTH w ↦ rw (listed_long s n (omega arith) (omega arith))
+      | then-length-gt-MOST_LENGTH-via-else-length-gt-MOST_LENGTH+then-rest-length w ↦
           rw (listed_short s n (omega arith) (omega arith) (omega (arith, length-drop 2 s)))
     ]
 

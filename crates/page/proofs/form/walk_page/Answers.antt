@@ -10,15 +10,15 @@ use Rattle.page.specs.Form.{page_form}
 use Rattle.page.proofs.Walking.{page_long, page_told, page_walked}
 use Rattle.page.proofs.form.walk_page.Goals as goal
 
-pub returns-then-s-le512 : goal.returns-then-s-le512
-returns-then-s-le512 c =
+pub returns-then-s-le-MOST_BYTES : goal.returns-then-s-le-MOST_BYTES
+returns-then-s-le-MOST_BYTES c =
     let s = c.args.s.now in
     let h : length s ≤ 512 = omega arith in
     let w = c.walk.ensures in
     (c.eq.ensures ∙ page_told s h _ _ c.walk.result w, page_walked s h _ _ c.walk.result w c.requires)
 
-pub returns-else-s-le512 : goal.returns-else-s-le512
-returns-else-s-le512 c =
+pub returns-else-s-le-MOST_BYTES : goal.returns-else-s-le-MOST_BYTES
+returns-else-s-le-MOST_BYTES c =
     let s = c.args.s.now in
     let e : page_form s ≡ false = page_long s (omega arith) in
     (lt-leb (length s) 512 (omega arith) ∙ sym e, λ f. clash f e)

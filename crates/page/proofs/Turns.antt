@@ -1,7 +1,6 @@
 -- The loops over the n object records from a place on: at turn i the record there is left, and those left at turn i + 1.
 use Prim.Native.Nat.{ℕ, zero, suc, ◌+◌, ◌*◌, ◌-◌, ◌≤◌, ◌<◌}
 use mathlib.Core.Path.{◌≡◌, refl, ◌∙◌}
-use mathlib.Core.Bool.{true, ◌&&◌}
 use mathlib.Core.List.{List, [], ◌∷◌}
 use native.Mathlib.Omega.{arith}
 use native.Mathlib.Nat.{add-zero}
@@ -32,14 +31,6 @@ pub objects_form_every : (s : List ℕ) (at n : ℕ)
 objects_form_every s at n = every_from s at 0 n ∙ rw add-zero
 
 module _ (s : List ℕ) (at n i : ℕ) where
-  pub objects_form_turn : i < n
-      → objects_form (n - i) s (at + 16 * i)
-      ≡ (object_form s (at + 16 * i) && objects_form (n - (i + 1)) s (at + 16 * (i + 1)))
-  objects_form_turn h = rw (turn n i h, next_place at i)
-
-  pub objects_form_done : n ≤ i → objects_form (n - i) s (at + 16 * i) ≡ true
-  objects_form_done h = rw (done n i h)
-
   pub objects_at_turn : i < n
       → objects_at (n - i) s (at + 16 * i) ≡ object_at s (at + 16 * i) ∷ objects_at (n - (i + 1)) s (at + 16 * (i + 1))
   objects_at_turn h = rw (turn n i h, next_place at i)

@@ -14,10 +14,10 @@ use borrow.Author.Tests.{le-leb, lt-leb}
 use Rattle.lists.specs.Bools.{bool_cases, clash}
 use Rattle.lists.specs.Slices.{sets_next, take_sets}
 use Rattle.page.specs.Form.{objects_form, component_marks, records_at, component_end, component_form, components_form, places_from}
-use Rattle.page.specs.Form.{end_if, end_from, head_form, counted, page_places, page_end, form_by, page_form}
+use Rattle.page.specs.Form.{end_if, end_from, head_form, counted, form_by, page_form}
 use Rattle.page.specs.FormLaws.{length_places, few_components, page_by}
 use Rattle.page.specs.Walked.{Walks, Walked, walked_page}
-use Rattle.page.proofs.Turns.{turn, done}
+use Rattle.page.proofs.Turns.{turn}
 
 -- Places counted from `base` bytes before the page.
 abbrev pub shifted : ℕ → List ℕ → List ℕ
@@ -64,18 +64,9 @@ module _ (limit : ℕ) (s : List ℕ) (n i at : ℕ) where
       → components_form (n - i) limit s at ≡ components_form (n - (i + 1)) limit s (component_end s at)
   form_turn h e = rw (turn n i h, e)
 
-  pub form_fault : i < n → component_form limit s at ≡ false → components_form (n - i) limit s at ≡ false
-  form_fault h e = rw (turn n i h, e)
-
-  pub form_done : n ≤ i → components_form (n - i) limit s at ≡ true
-  form_done h = rw (done n i h)
-
 module _ (s : List ℕ) (n i at : ℕ) where
   pub end_turn : i < n → end_from (n - i) s at ≡ end_from (n - (i + 1)) s (component_end s at)
   end_turn h = rw (turn n i h)
-
-  pub end_done : n ≤ i → end_from (n - i) s at ≡ at
-  end_done h = rw (done n i h)
 
   module _ (base m : ℕ) (places : List ℕ) where
     pub places_turn : i < n → sets places (m + i) (shifted base (places_from (n - i) s at))
@@ -83,19 +74,10 @@ module _ (s : List ℕ) (n i at : ℕ) where
     places_turn h =
         rw (turn n i h) (sets_next places m i (base + at) (shifted base (places_from (n - (i + 1)) s (component_end s at))))
 
-    pub places_done : n ≤ i → sets places (m + i) (shifted base (places_from (n - i) s at)) ≡ places
-    places_done h = rw (done n i h)
-
 -- If the page has not its form.
 pub walks_faulty : (limit : ℕ) (s : List ℕ) (base n : ℕ) (before after : List ℕ) → form_by limit s ≡ false
     → take n after ≡ take n before → length after ≡ length before → Walks limit s base n before after None
 walks_faulty limit s base n before after e k l = (rw e, k, l, λ f. clash f e)
-
--- If it has, and the walk ends at a place.
-pub walks_whole : (limit : ℕ) (s : List ℕ) (base n : ℕ) (before after : List ℕ) (at : ℕ) → form_by limit s ≡ true
-    → page_end s ≡ at → take n after ≡ take n before → length after ≡ length before
-    → after ≡ sets before n (page_places base s) → Walks limit s base n before after (Some at)
-walks_whole limit s base n before after at e f k l g = (rw (e, f), k, l, λ h. g)
 
 -- The walk over bytes that are to be one page.
 module _ (s : List ℕ) where

@@ -17,7 +17,7 @@ use Rattle.layout.specs.RecordLaws.{records_pack}
 use Rattle.layout.specs.Distinct.{same_object}
 use Rattle.layout.specs.FactLaws.{same_object_lem}
 use Rattle.free_table.specs.declared.TargetRecord.{TargetRecord}
-use Rattle.free_table.specs.Table.{no_record, target_ok, target_above, rising, table_ok}
+use Rattle.free_table.specs.Table.{Table, no_record, table_of, target_ok, target_above, rising, table_ok}
 use Rattle.free_table.proofs.TableLaws.{first_rises, rises_first, rising_lower, target_most, target_rises}
 use Rattle.free_table.specs.Choosing.{Choice, next_object, raised, passing, chosen, raised_first, choice_of, with_more}
 use Rattle.free_table.specs.Scanning.{choice_after}
@@ -26,6 +26,10 @@ use Rattle.free_table.specs.Scanning.{choice_after}
 pub table_facts : (rs : List TargetRecord) → table_ok rs ≡ true → (length rs ≤ 64) × (rising 0 rs ≡ true)
 unfolding table_ok
 table_facts rs e = let p = both_true (leb (length rs) 64) (rising 0 rs) e in (leb-true (length rs) 64 p.0, p.1)
+
+-- Of a table that is not bad the count is at most 64: its array has 65 places, so a higher count means more than 64 records.
+pub table_count : (t : Table) → length t.records ≡ 65 → table_ok (table_of t) ≡ true → t.count ≤ 64
+table_count t h e = omega (arith, (table_facts (table_of t) e).0, length-take t.count t.records)
 
 -- The next object of the record at a place.
 pub next_at : (rs : List TargetRecord) (i : ℕ) → get_or (map next_object rs) i no_object ≡ next_object (get_or rs i no_record)

@@ -4,3 +4,4 @@ pub mod ChosenFacts
 pub mod Scanning
 pub mod Raising
 pub mod ScanLaws
+pub mod LentTable

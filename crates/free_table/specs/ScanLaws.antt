@@ -1,7 +1,7 @@
 -- Laws of the scan and of the raise of a free table, record by record: what one record more changes, and which objects the next
 -- object of a record is none of.
 use Rattle.std.specs.Prelude.{ℕ, zero, suc, ◌+◌, ◌-◌, ◌≤◌, ◌<◌, ◌≡◌, refl, List, [], ◌∷◌, is_some, Bool, true, false, cond, ◌&&◌, ltb, length, get_or, take, set}
-use Rattle.std.proofs.Common.{ap, sym, ◌∙◌, arith, add-one, ltb-true, ne_eqb}
+use Rattle.std.proofs.Common.{ap, sym, ◌∙◌, arith, add-one, length-take, get_or-take, ltb-true, ne_eqb}
 use Rattle.lists.specs.Bools.{cond_elim, bool_cases, both_true, clash}
 use Rattle.lists.specs.Tests.{after_append}
 use Rattle.lists.specs.Slices.{take_next}
@@ -71,6 +71,13 @@ module _ (of : Object → ℕ) (bound : ℕ) where
       bool_cases (same_object x o)
       (λ q. let n = ap of (same_object_lem x o q) in omega (arith, f 0 (omega arith)))
       (λ q. among_all os (λ j h. f (suc j) (omega arith)) x (rw q at e))
+
+  -- The same of the first n of a list.
+  pub among_below : (os : List Object) (n : ℕ) → ((j : ℕ) → j < n → of (get_or os j no_object) < bound) → (x : Object)
+      → elem same_object x (take n os) ≡ true → of x < bound
+  among_below os n f x e =
+      among_all (take n os)
+      (λ j h. let k : j < n = omega (arith, length-take n os) in rw (get_or-take n os j no_object k) (f j k)) x e
 
 -- An object on a higher target than others is none of them.
 pub none_past : (os : List Object) (x : Object) → ((j : ℕ) → j < length os → (get_or os j no_object).target < x.target)

@@ -1,6 +1,7 @@
 -- The free table: its records, refusal 15, and which targets are low and which usable. What is in quotes is document
 -- 01's.
 use Rattle.std.specs.Prelude.{ℕ, ◌+◌, List, [], ◌∷◌, Bool, true, not, cond, ◌&&◌, ltb, leb, eqb, length, take}
+use Rattle.std.proofs.lemmas.List.Edits.{sets}
 use Rattle.lists.specs.Tests.{every, along, any_of}
 use Rattle.layout.specs.declared.Object.{Object}
 use Rattle.free_table.specs.declared.TargetRecord.{TargetRecord}
@@ -13,6 +14,19 @@ listed x = take x.count x.items
 -- What is said to be past a table's end, and is in the unused places of an array of records.
 abbrev pub no_record : TargetRecord
 no_record = record { target = 0; free = 0; next = 0 }
+
+-- Records in the first places of an array, as many as the count: how at most 65 stand in 65 places.
+pub record Table : Type 0 where
+  pub count : ℕ
+  pub records : List TargetRecord
+
+-- The records of a table: the first places of its array, as many as its count.
+abbrev pub table_of : Table → List TargetRecord
+table_of t = take t.count t.records
+
+-- A table with other records in its first places. What is after them stays.
+abbrev pub with_records : Table → List TargetRecord → Table
+with_records t rs = record { count = t.count; records = sets t.records 0 rs }
 
 -- "targets strictly rising and at most 65,534": `from` is the lowest target that may be here.
 abbrev pub target_ok : ℕ → TargetRecord → Bool

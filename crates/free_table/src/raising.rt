@@ -1,5 +1,5 @@
 // The records of the free table after a choice.
-ghost use Rattle.std.specs.Prelude.{◌≡◌};
+ghost use Rattle.std.specs.Prelude.{◌≡◌, map};
 ghost use Rattle.lists.specs.Counting.{elem};
 ghost use Rattle.layout.specs.Distinct.{same_object};
 ghost use Rattle.free_table.specs.Choosing.{next_object};
@@ -44,4 +44,16 @@ pub fn records_raised(records: usize, n: usize) -> usize
     ensures { result ≡ records_raised records n }
 {
     if n == 0 { 0 } else { records }
+}
+
+// Raises the next numbers of the records whose next objects are among these. If there are no objects, no record is
+// stored.
+pub fn raise(table: &mut [TargetRecord], objects: &[Object])
+    requires { Raisable objects.now }
+    ensures { table.new ≡ map (raised_in objects.now) table.old }
+{
+    let records = records_raised(table.len(), objects.len());
+    for r in &mut table[..records] {
+        *r = raised_in(objects, *r);
+    }
 }

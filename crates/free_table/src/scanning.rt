@@ -1,12 +1,12 @@
 // The free table scanned record by record: what a step of growth asks of it, and what is known after some of its
 // records.
-ghost use Rattle.std.specs.Prelude.{◌≡◌, ◌≤◌, eqb, length};
+ghost use Rattle.std.specs.Prelude.{◌≡◌, ◌≤◌, eqb, length, take};
 ghost use Rattle.lists.specs.Counting.{elem};
 ghost use Rattle.layout.specs.Records.{records_of};
 ghost use Rattle.layout.specs.Rows.{targets_of};
 ghost use Rattle.free_table.specs.Table.{target_ok};
 ghost use Rattle.free_table.specs.Scanning.{pack_targets, new_scan, refused_scan, eligible, lows_after};
-ghost use Rattle.free_table.specs.Scanning.{told, seen, Fit, any_set};
+ghost use Rattle.free_table.specs.Scanning.{told, seen, scanned, Fit, any_set};
 
 use crate::{NO_CHOICE, NO_TARGETS, Scan, TargetRecord, Targets};
 use layout::Component;
@@ -121,6 +121,18 @@ pub fn see(s: Scan, r: TargetRecord) -> Scan
         };
     }
     tell(s, r)
+}
+
+// Scans as many of the records as the scan says.
+pub fn scan(table: &[TargetRecord], asked: Scan) -> Scan
+    requires { Fit asked × (asked.records ≤ length table.now) }
+    ensures { result ≡ scanned asked (take asked.records table.now) }
+{
+    let mut s = asked;
+    for r in &table[..asked.records] {
+        s = see(s, *r);
+    }
+    s
 }
 
 // Is one of the flags set?

@@ -1,9 +1,10 @@
 -- How the next page is cut from the bytes after a position.
 use Rattle.std.specs.Prelude.{ℕ, ◌+◌, ◌≤◌, ◌<◌, min, ◌≡◌, List, Bool, true, false, ◌&&◌, eqb, leb, length, take, drop}
-use Rattle.std.proofs.Common.{sym, ap, ap₂, ◌∙◌, arith}
+use Rattle.std.proofs.Common.{sym, ap, ap₂, ◌∙◌, arith, add-zero, length-drop, drop-drop}
 use borrow.Author.Tests.{eq-eqb, ne_eqb, le-leb, lt-leb, leb-true, leb-false}
 use Rattle.lists.specs.Bools.{bool_cases}
 use Rattle.bytes_le.specs.Numbers.{u16_at}
+use Rattle.bytes_le.specs.NumberLaws.{u16_drop}
 use Rattle.page.specs.Form.{page_form, counted, page_end, form_by}
 use Rattle.page.specs.Content.{head_of, components_of}
 use Rattle.page.specs.FormLaws.{end_past}
@@ -61,6 +62,20 @@ module _ (s : List ℕ) (some : 0 < length s) where
   pub host_cut_lem : length s < page_end s → host_cut s ≡ broken
   unfolding host_cut
   host_cut_lem h = rw (more, lt-leb (page_end s) (length s) h)
+
+-- The length before a page, at a position.
+pub length_at : (s : List ℕ) (at : ℕ) → u16_at (drop at s) 0 ≡ u16_at s at
+length_at s at = u16_drop at s 0 ∙ ap (u16_at s) (add-zero at)
+
+-- The page of n bytes after the length at a position, and the rest after the page.
+pub listed_next_at : (s : List ℕ) (at n : ℕ) → n ≡ u16_at s at → at + 2 ≤ length s → n ≤ 512 → at + 2 + n ≤ length s
+    → listed_cut (drop at s) ≡ next (take n (drop (at + 2) s)) (drop (at + 2 + n) s)
+listed_next_at s at n e h k l =
+    let len = length-drop at s in
+    let m : u16_at (drop at s) 0 ≡ n = length_at s at ∙ sym e in
+    let sum : at + (2 + n) ≡ at + 2 + n = omega arith in
+    listed_next (drop at s) (omega arith) (omega arith) (omega arith) (omega arith)
+    ∙ rw (m, drop-drop 2 at s, drop-drop (2 + n) at s, sum)
 
 -- The host's next page, if some bytes are left.
 module _ (s : List ℕ) (some : 0 < length s) where

@@ -1,5 +1,6 @@
 -- Laws of taking a page: which number is given when, and what is given back under it.
-use Rattle.std.specs.Prelude.{ℕ, zero, suc, ◌+◌, ◌≤◌, ◌<◌, ◌≡◌, refl, List, ◌++◌, Bool, true, false}
+use Rattle.std.specs.Prelude.{ℕ, zero, suc, ◌+◌, ◌≤◌, ◌<◌, ◌≡◌, refl, List, ◌++◌, Err, Bool, true, false}
+use Rattle.std.proofs.Common.{arith}
 use Rattle.std.proofs.Math.ListN.{length}
 use borrow.Author.Tests.{le-leb, lt-leb}
 use Rattle.layout.specs.declared.Component.{Component}
@@ -12,6 +13,13 @@ use Rattle.collector.specs.declared.Collector.{Collector}
 use Rattle.collector.specs.Collector.{gathered, collector_ok}
 use Rattle.collector.specs.Taking.{number_of, is_next, joined, accepted, settled}
 use Rattle.collector.specs.Taking.{content_refusal, open_refusal, page_refusal}
+
+-- Under the number of a refusal the collector is given back as it was, with that number.
+pub settled_refused : (n : ℕ) (c : Collector) (h : Head) (cs : List Component) → 0 < n
+    → record { answer = Err n; collector = c } ≡ settled n c h cs
+unfolding settled
+settled_refused zero c h cs z = absurd (omega arith)
+settled_refused (suc n) c h cs z = refl
 
 -- An accepted page answers with no number.
 accepted_number : (pages : ℕ) (more : Bool) (l : Layout) → number_of (accepted pages more l).answer ≡ 0

@@ -1,15 +1,16 @@
 -- Laws of a free table that is lent as a list of records: how it is loaded and written back record by record.
-use Rattle.std.specs.Prelude.{ℕ, zero, suc, ◌+◌, ◌≤◌, ◌<◌, ◌≡◌, List, [], ◌∷◌, ◌++◌, leb, get_or, take, drop, replicate}
+use Rattle.std.specs.Prelude.{ℕ, zero, suc, ◌+◌, ◌≤◌, ◌<◌, ◌≡◌, List, [], ◌∷◌, ◌++◌, Bool, leb, get_or, take, drop, replicate}
 use Rattle.std.proofs.Math.Path.{refl}
 use Rattle.std.proofs.Common.{ap, sym, ◌∙◌, arith, add-one, take_all, leb-true, leb-false, take-append-drop}
 use Rattle.std.proofs.Math.Nat.{zero-add}
 use Rattle.std.proofs.Math.ListN.{length, set, length-take, length-replicate}
-use Rattle.std.proofs.Math.Seq.{length-take-le, length-sets}
+use Rattle.std.proofs.Math.Seq.{take-length, length-take-le, length-sets}
 use Rattle.std.proofs.lemmas.List.Edits.{sets, sets-eq}
 use Rattle.lists.specs.Bools.{bool_cases}
 use Rattle.lists.specs.Slices.{take_next, sets_append, take_sets}
 use Rattle.free_table.specs.declared.TargetRecord.{TargetRecord}
 use Rattle.free_table.specs.Table.{Table, no_record, table_of, with_records}
+use Rattle.free_table.specs.Choosing.{raised_first}
 use Rattle.free_table.proofs.ChoosingLaws.{take_count}
 use Rattle.free_table.specs.LentTable.{places_of, empty_table, with_record, loaded_first, loaded_of, with_next, with_nexts}
 
@@ -84,6 +85,32 @@ pub write_length : (rs ss : List TargetRecord) → length (with_nexts rs ss) ≡
 write_length rs [] = refl
 write_length [] (s ∷ ss) = refl
 write_length (r ∷ rs) (s ∷ ss) = ap suc (write_length rs ss)
+
+-- Records get their own next numbers back: they stay as they are.
+pub own_nexts : (n : ℕ) (rs : List TargetRecord) → with_nexts rs (take n rs) ≡ rs
+own_nexts zero rs = refl
+own_nexts (suc n) [] = refl
+own_nexts (suc n) (r ∷ rs) = ap (λ (l : List TargetRecord). r ∷ l) (own_nexts n rs)
+
+pub same_nexts : (rs : List TargetRecord) → with_nexts rs rs ≡ rs
+same_nexts rs = ap (with_nexts rs) (sym (take-length rs)) ∙ own_nexts (length rs) rs
+
+-- The table after a choice differs from the one before it by next numbers alone: they make the one out of the other,
+module _ (ok : TargetRecord → Bool) where
+  pub raised_nexts : (s : ℕ) (rs : List TargetRecord) → with_nexts rs (raised_first ok s rs) ≡ raised_first ok s rs
+  raised_nexts s [] = refl
+  raised_nexts zero (r ∷ rs) = same_nexts (r ∷ rs)
+  raised_nexts (suc s) (r ∷ rs) =
+      bool_cases (ok r)
+      (λ e. rw e (ap (λ (l : List TargetRecord). with_next r (r.next + 1) ∷ l) (raised_nexts s rs)))
+      (λ e. rw e (ap (λ (l : List TargetRecord). r ∷ l) (raised_nexts (suc s) rs)))
+
+  -- and it is as long.
+  pub raised_length : (s : ℕ) (rs : List TargetRecord) → length (raised_first ok s rs) ≡ length rs
+  raised_length s [] = refl
+  raised_length zero (r ∷ rs) = refl
+  raised_length (suc s) (r ∷ rs) =
+      bool_cases (ok r) (λ e. rw e (ap suc (raised_length s rs))) (λ e. rw e (ap suc (raised_length (suc s) rs)))
 
 -- The first elements of a list stored where they are leave the list as it was.
 stored_same : {A : Type 0} (l : List A) (n : ℕ) → sets l 0 (take n l) ≡ l

@@ -1,9 +1,10 @@
 -- What the step of a call gives, by the number of the refusal of its change.
-use Rattle.std.specs.Prelude.{ℕ, ◌+◌, ◌≤◌, ◌≡◌, refl, List, Bool, true, false, ltb, leb, eqb, length}
+use Rattle.std.specs.Prelude.{ℕ, ◌+◌, ◌≤◌, ◌≡◌, refl, List, Bool, true, false, ltb, leb, eqb, length, Some, None, Ok, Err}
 use Rattle.std.proofs.Math.Path.{ap}
 use Rattle.std.proofs.Common.{◌∙◌, arith}
 use Rattle.std.proofs.Math.Bool.{cond}
 use borrow.Author.Tests.{ltb-false, eqb-false}
+use Rattle.refusals.specs.declared.Refusal.{Refusal}
 use Rattle.layout.specs.declared.Object.{Object}
 use Rattle.layout.specs.declared.Component.{Component}
 use Rattle.layout.specs.declared.Layout.{Layout}
@@ -12,9 +13,24 @@ use Rattle.layout.specs.Rules.{valid}
 use Rattle.layout.specs.Holder.{last_end}
 use Rattle.free_table.specs.Table.{usable, table_ok}
 use Rattle.free_table.specs.Choosing.{raised_first}
-use Rattle.growth_rules.specs.Steps.{Call, changes}
+use Rattle.growth_rules.specs.Steps.{Call, stays, lacks, changes}
 use Rattle.growth_rules.specs.Growing.{Outcome, meets, step_of, refusing, accepting, outcome_of, grow_in, grow_of}
-use Rattle.growth.specs.Plans.{change_refusal}
+use Rattle.growth.specs.declared.Change.{Change}
+use Rattle.growth.specs.Plans.{Plan, planned, planned_objects, plan_says, change_refusal}
+
+-- What a plan says, case by case: it is refused, it changes nothing, or it is a change.
+module _ (p : Plan) (cs : List Component) where
+  pub plan_lacks : (e : Refusal) → p ≡ Err e → plan_says p cs ≡ lacks
+  unfolding plan_says
+  plan_lacks e q = rw q
+
+  pub plan_stays : p ≡ Ok None → plan_says p cs ≡ stays
+  unfolding plan_says
+  plan_stays q = rw q
+
+  pub plan_changes : (c : Change) → p ≡ Ok (Some c) → plan_says p cs ≡ changes (planned c cs) (planned_objects c)
+  unfolding plan_says
+  plan_changes c q = rw q
 
 -- Of three tests in a row, the first that passes gives its number or its outcome; `other` is for none of them.
 module _ (f : ℕ → Outcome) (other : Outcome) where

@@ -3,3 +3,4 @@ pub mod RecordLaws
 pub mod SliceLaws
 pub mod Joining
 pub mod JoiningLaws
+pub mod FirstPlaces

@@ -1,2 +1,3 @@
 pub mod DecimalValue
 pub mod Digits
+pub mod DecimalLaws

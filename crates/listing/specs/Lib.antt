@@ -3,3 +3,4 @@ pub mod Listing
 pub mod Room
 pub mod FirstBytes
 pub mod Example
+pub mod Copies

@@ -116,7 +116,7 @@ module _ (end a m n : ℕ) (xs : List Span) where
           (λ t. (t, sym (answer_gives 0 _ k (sym (rw t at e))).1))
 
 -- Under the number of a refusal all lent numbers stay.
-room_refused : (n : ℕ) (ps : List Piece) (room : List ℕ) → (n ≡ 0 → ⊥) → room ≡ room_after n ps room
+pub room_refused : (n : ℕ) (ps : List Piece) (room : List ℕ) → (n ≡ 0 → ⊥) → room ≡ room_after n ps room
 unfolding room_after
 room_refused zero ps room h = absurd (h refl)
 room_refused (suc n) ps room h = refl

@@ -15,3 +15,4 @@ pub mod Acceptance
 pub mod TileLaws
 pub mod CuttingLaws
 pub mod Samples
+pub mod CutNumbers

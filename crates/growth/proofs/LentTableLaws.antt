@@ -2,7 +2,7 @@
 -- list.
 use Rattle.std.specs.Prelude.{ℕ, ◌≤◌, ◌<◌, ◌≡◌, List, false, cond, leb, take, Result}
 use Rattle.std.proofs.Math.Path.{refl}
-use Rattle.std.proofs.Common.{ap, sym, ◌∙◌, ⊎_elim, arith, take_all, leb-true, leb-false}
+use Rattle.std.proofs.Common.{ap, ◌∙◌, ⊎_elim, arith, take_all, leb-true, leb-false}
 use Rattle.std.proofs.Math.ListN.{length, length-take}
 use Rattle.lists.specs.Bools.{bool_cases}
 use Rattle.lists.specs.Slices.{take_sets}

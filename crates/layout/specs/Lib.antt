@@ -14,3 +14,4 @@ pub mod RecordLaws
 pub mod Rows
 pub mod KeyLaws
 pub mod Samples
+pub mod KeyRows

@@ -1,4 +1,5 @@
 pub mod Loops
+pub mod TestLaws
 pub mod CountingLaws
 pub mod Iterators
 pub mod Found

@@ -1,6 +1,5 @@
 -- The answer to a request, and the lent numbers, under the number of its refusal.
 use Rattle.std.specs.Prelude.{ℕ, ◌+◌, ◌≡◌, refl, List, length}
-use Rattle.std.proofs.Common.{sym}
 use Rattle.std.proofs.lemmas.List.Edits.{sets}
 use Rattle.mapping.specs.declared.Span.{Span}
 use Rattle.mapping.specs.Answers.{gives, refuses, answer}

@@ -119,7 +119,7 @@ module _ (s : List ℕ) (offset mark : ℕ) (ws bs ns : List ℕ) where
   number = grow_number s offset mark ws (length bs)
 
   -- What the call returns and what is lent afterwards are as they are stated.
-  abbrev Stated : ℕ → List ℕ → List ℕ → List ℕ → Type 0
+  abbrev pub Stated : ℕ → List ℕ → List ℕ → List ℕ → Type 0
   Stated r words bytes numbers =
       (r ≡ number) × (words ≡ table_after number ws out) × (bytes ≡ grown_after number bs out)
       × (numbers ≡ answer_after number ns out)

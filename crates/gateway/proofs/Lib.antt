@@ -1,3 +1,7 @@
 pub mod HostLaws
 pub mod FoundLaws
 pub mod HostGrowthLaws
+pub mod HostGrowthNumbers
+pub mod LentStores
+pub mod PageTurns
+pub mod LoadedWords

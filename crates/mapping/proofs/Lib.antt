@@ -9,3 +9,4 @@ pub mod CutLaws
 pub mod CutTheorem
 pub mod UnitCutLaws
 pub mod LookupLaws
+pub mod CutNumbers

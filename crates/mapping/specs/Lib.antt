@@ -15,4 +15,3 @@ pub mod Acceptance
 pub mod TileLaws
 pub mod CuttingLaws
 pub mod Samples
-pub mod CutNumbers

@@ -54,7 +54,7 @@ module _ (s : List ℕ) (p : Progress) (places : List ℕ) (k : InRange s p plac
       (omega (arith, v.some, cs_length), k.few, k.within, facts_keep false cs (rw w at v.keeps))
 
   -- The reading is refused.
-  finds_none : (e : Refusal) → number_of e ≡ (read_run host_cut s).refusal → Finds s (Err e) places
+  pub finds_none : (e : Refusal) → number_of e ≡ (read_run host_cut s).refusal → Finds s (Err e) places
   unfolding found_of
   finds_none e q =
       let l = (read_run host_cut s).layout in
@@ -72,7 +72,7 @@ module _ (s : List ℕ) (p : Progress) (places : List ℕ) (k : InRange s p plac
 
   -- They are.
   module _ (d : distinct_hold cs ≡ true) where
-    same : (read_run host_cut s).refusal ≡ end_refusal s (placed_of n p places)
+    pub same : (read_run host_cut s).refusal ≡ end_refusal s (placed_of n p places)
     same = number_is ∙ rw d
 
     -- The reading is refused for another reason: a page was refused,

@@ -3,3 +3,4 @@ pub mod PlacingLaws
 pub mod TurnLaws
 pub mod NextLaws
 pub mod FoundLaws
+pub mod EndLaws

@@ -21,7 +21,8 @@ ghost use Rattle.std.specs.Prelude.{◌≡◌, IfOk};
 ghost use Rattle.refusals.specs.Refusals.{number_in};
 ghost use Rattle.layout.specs.Rows.{object_of};
 ghost use Rattle.mapping.specs.Homes.{in_object};
-ghost use Rattle.gateway.specs.Host.{host_reading, host_layout};
+ghost use Rattle.gateway.specs.Host.{host_reading, host_layout, host_components};
+ghost use Rattle.in_place.specs.Places.{components_at};
 ghost use Rattle.gateway.specs.Host.{lookup_number, home_after, back_number, offset_after};
 ghost use Rattle.gateway.specs.Host.{cut_number, pieces_after, count_after, page_number, buffer_after, written_after};
 
@@ -51,18 +52,26 @@ fn read_layout(pages: &[u8]) -> Result<Layout, Refusal>
     Ok(in_place::whole::layout_at(pages, &places[..read.count], read.generation))
 }
 
+// The components that are in the pages, by their places in them.
+fn read_placed<'a>(pages: &'a [u8], places: &'a mut [usize; 16]) -> Result<Placed<'a>, Refusal>
+    ensures number { number_in result ≡ (host_reading pages.now).refusal }
+    ensures placed { IfOk result
+        (λ p. components_at p.pages.now p.places.now ≡ host_components pages.now) }
+{
+    let read = placed_run::read(pages, places)?;
+    Ok(Placed {
+        pages,
+        places: &places[..read.count],
+    })
+}
+
 // Stores the home of a file byte.
 fn lookup(pages: &[u8], offset: u64, home: &mut [u64; 3]) -> Result<(), Refusal>
     ensures { (number_in result ≡ lookup_number pages.now offset)
         × (home.new ≡ home_after pages.now offset home.old) }
 {
     let mut places = [0; 16];
-    let read = placed_run::read(pages, &mut places)?;
-    let placed = Placed {
-        pages,
-        places: &places[..read.count],
-    };
-    let found = placed.lookup(offset)?;
+    let found = read_placed(pages, &mut places)?.lookup(offset)?;
     *home = [u64::from(found.target), found.number, found.byte];
     Ok(())
 }
@@ -86,11 +95,7 @@ fn back(pages: &[u8], target: u32, number: u64, byte: u64, offset: &mut u64) -> 
         × (offset.new ≡ offset_after bytes home offset.old) }
 {
     let mut places = [0; 16];
-    let read = placed_run::read(pages, &mut places)?;
-    let placed = Placed {
-        pages,
-        places: &places[..read.count],
-    };
+    let placed = read_placed(pages, &mut places)?;
     *offset = placed.back(Object { target, number }, byte)?;
     Ok(())
 }
@@ -123,12 +128,7 @@ fn cut(
         × (count.new ≡ count_after bytes offset length lent count.old) }
 {
     let mut places = [0; 16];
-    let read = placed_run::read(pages, &mut places)?;
-    let placed = Placed {
-        pages,
-        places: &places[..read.count],
-    };
-    *count = placed.cut(offset, length, room)?;
+    *count = read_placed(pages, &mut places)?.cut(offset, length, room)?;
     Ok(())
 }
 

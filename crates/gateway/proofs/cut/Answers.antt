@@ -1,23 +1,20 @@
 -- `gateway::cut` meets its contract: a refusal of the reading comes first; else `cut` writes the pieces by the components at
 -- the places found, and their number is stored.
-use Rattle.std.proofs.Common.{ℕ, ◌∙◌, length}
+use Rattle.std.proofs.Common.{sym, ℕ, ◌∙◌, length}
 use Rattle.std.proofs.lemmas.Result.{err_from_is_err_and}
 use Rattle.mapping.specs.Cutting.{cut_refusal, cut_count, cut_in, cut_says}
-use Rattle.gateway.specs.Host.{cut_number, pieces_after, count_after}
+use Rattle.gateway.specs.Host.{host_components, cut_number, pieces_after, count_after}
 use Rattle.gateway.specs.LentAnswers.{given_stored, refused_kept}
-use Rattle.gateway.proofs.HostLaws.{room_lent}
-use Rattle.gateway.proofs.FoundLaws.{found_refused, found_places, found_own, found_components, found_answer}
+use Rattle.gateway.proofs.HostLaws.{own_number, room_lent}
+use Rattle.gateway.proofs.FoundLaws.{refused_by, found_answer}
 use Rattle.gateway.proofs.cut.Goals as goal
 
-pub returns-in_err-read : goal.returns-in_err-read
+pub returns-in_err-read_placed : goal.returns-in_err-read_placed
 unfolding cut_number pieces_after count_after
-returns-in_err-read c =
+returns-in_err-read_placed c =
     let p = err_from_is_err_and c.from_residual.result c.from_residual.ensures.1 in
-    let f = found_refused c.in_err-read.ensures in
+    let f = refused_by _ c.in_err-read_placed.ensures.number in
     rw (p.1, p.2) (f.number _, f.lent _ _ _, f.lent _ _ _)
-
-pub invariant_of-placed : goal.invariant_of-placed
-invariant_of-placed c = record { valid = found_places c.in_ok-read.ensures }
 
 pub returns-in_err-count : goal.returns-in_err-count
 unfolding cut_number pieces_after count_after cut_in cut_says
@@ -25,13 +22,16 @@ returns-in_err-count c =
     let r = c.from_residual-in_err-count in
     let p = err_from_is_err_and r.result r.ensures.1 in
     let a = c.args in
-    let f = c.in_ok-read.ensures in
+    let read = c.in_ok-read_placed.ensures in
+    let pages = a.pages.now in
     let room = a.room.now in
+    let own = own_number pages (cut_refusal a.offset a.length (length room) (host_components pages)) (sym read.number) in
     let kept = refused_kept (λ (n : ℕ). n) a.count.now _ _ _
-    (found_answer f (cut_refusal a.offset a.length (length room)) (cut_count a.offset a.length) c.in_err-count.ensures.0) in
+    (found_answer pages _ (cut_refusal a.offset a.length (length room)) (cut_count a.offset a.length) (sym read.number)
+    read.placed c.in_err-count.ensures.0) in
     rw (p.1, p.2) (
       kept.0,
-      rw (found_own f, found_components f) (c.in_err-count.ensures.1 ∙ room_lent _ _ room),
+      rw (own, ← read.placed) (c.in_err-count.ensures.1 ∙ room_lent _ _ room),
       kept.1,
     )
 
@@ -39,11 +39,14 @@ pub returns : goal.returns
 unfolding cut_number pieces_after count_after cut_in cut_says
 returns c =
     let a = c.args in
-    let f = c.in_ok-read.ensures in
+    let read = c.in_ok-read_placed.ensures in
+    let pages = a.pages.now in
     let room = a.room.now in
+    let own = own_number pages (cut_refusal a.offset a.length (length room) (host_components pages)) (sym read.number) in
     let stored = given_stored (λ (n : ℕ). n) a.count.now _ _ _
-    (found_answer f (cut_refusal a.offset a.length (length room)) (cut_count a.offset a.length) c.in_ok-count.ensures.0) in (
+    (found_answer pages _ (cut_refusal a.offset a.length (length room)) (cut_count a.offset a.length) (sym read.number)
+    read.placed c.in_ok-count.ensures.0) in (
       stored.0,
-      rw (found_own f, found_components f) (c.in_ok-count.ensures.1 ∙ room_lent _ _ room),
+      rw (own, ← read.placed) (c.in_ok-count.ensures.1 ∙ room_lent _ _ room),
       stored.1,
     )

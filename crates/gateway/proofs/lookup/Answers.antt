@@ -1,39 +1,38 @@
 -- `gateway::lookup` meets its contract: a refusal of the reading comes first; else what `lookup` says of the components at
 -- the places found is stored.
-use Rattle.std.proofs.Common.{ap, ◌∙◌, ℕ, [], ◌∷◌}
+use Rattle.std.proofs.Common.{sym, ap, ◌∙◌, ℕ, [], ◌∷◌}
 use Rattle.std.proofs.Math.Option.{some}
 use Rattle.std.proofs.lemmas.Result.{err_from_is_err_and}
 use Rattle.mapping.specs.Homes.{home_of}
 use Rattle.mapping.specs.Lookup.{lookup_refusal, lookup_in, lookup_says, home_says}
 use Rattle.gateway.specs.Host.{home_numbers, lookup_number, home_after}
 use Rattle.gateway.specs.LentAnswers.{given_stored, refused_kept}
-use Rattle.gateway.proofs.FoundLaws.{found_refused, found_places, found_answer}
+use Rattle.gateway.proofs.FoundLaws.{refused_by, found_answer}
 use Rattle.gateway.proofs.lookup.Goals as goal
 
-pub returns-in_err-read : goal.returns-in_err-read
+pub returns-in_err-read_placed : goal.returns-in_err-read_placed
 unfolding lookup_number home_after
-returns-in_err-read c =
+returns-in_err-read_placed c =
     let p = err_from_is_err_and c.from_residual.result c.from_residual.ensures.1 in
-    let f = found_refused c.in_err-read.ensures in
+    let f = refused_by _ c.in_err-read_placed.ensures.number in
     rw (p.1, p.2) (f.number _, f.lent _ _ _)
-
-pub invariant_of-placed : goal.invariant_of-placed
-invariant_of-placed c = record { valid = found_places c.in_ok-read.ensures }
 
 pub returns-in_err-found : goal.returns-in_err-found
 unfolding lookup_number home_after lookup_in lookup_says
 returns-in_err-found c =
     let r = c.from_residual-in_err-found in
     let p = err_from_is_err_and r.result r.ensures.1 in
+    let read = c.in_ok-read_placed.ensures in
     let b = c.args.offset in
     rw (p.1, p.2) (refused_kept home_numbers c.args.home.now _ _ _
-    (found_answer c.in_ok-read.ensures (lookup_refusal b) (home_of b) c.in_err-found.ensures))
+    (found_answer c.args.pages.now _ (lookup_refusal b) (home_of b) (sym read.number) read.placed c.in_err-found.ensures))
 
 pub returns : goal.returns
 unfolding lookup_number home_after lookup_in lookup_says
 returns c =
+    let read = c.in_ok-read_placed.ensures in
     let b = c.args.offset in
     let found = c.in_ok-found.found in
     let s = given_stored home_numbers c.args.home.now _ _ (some (home_says found))
-    (found_answer c.in_ok-read.ensures (lookup_refusal b) (home_of b) c.in_ok-found.ensures) in
+    (found_answer c.args.pages.now _ (lookup_refusal b) (home_of b) (sym read.number) read.placed c.in_ok-found.ensures) in
     (s.0, ap (λ (t : ℕ). t ∷ found.number ∷ found.byte ∷ []) c.from.ensures ∙ s.1)

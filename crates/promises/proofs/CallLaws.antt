@@ -62,7 +62,7 @@ refused_by_lem (gives a) n h e = absurd (omega arith)
 refused_by_lem {A} (refuses m) n h e = ap {B = Answer A} refuses e
 
 -- So it refuses by n exactly if n is the first number of the call, and a condition holds.
-refused_exactly : {A : Type 0} (x : Answer A) (rs : List Refusal) → IsFirst (answer_number x) rs
+pub refused_exactly : {A : Type 0} (x : Answer A) (rs : List Refusal) → IsFirst (answer_number x) rs
     → ((n : ℕ) → x ≡ refuses n → 0 < n) → (n : ℕ) → (refuses n ≡ x) ↔ RefusedBy n rs
 refused_exactly x rs g above n = (
   λ e. (above n (sym e), (g.0, ap answer_number e ∙ g.1)),
@@ -162,7 +162,7 @@ unfolding lookup_of
 lookup_valid l b h e = (checked_gives l (lookup_refusal b (view l)) (home_of b (view l)) (some h) e).0
 
 -- No lookup is refused by 0.
-lookup_some_number : (l : Layout) (b n : ℕ) → lookup_of b l ≡ refuses n → 0 < n
+pub lookup_some_number : (l : Layout) (b n : ℕ) → lookup_of b l ≡ refuses n → 0 < n
 unfolding lookup_of
 lookup_some_number l b n e = answer_some (checked l (lookup_refusal b (view l))) (home_of b (view l)) n e
 
@@ -209,7 +209,7 @@ back_given l o p b e =
     (v.0, omega (arith, back_below o p cs a.0, a.1))
 
 -- No way back is refused by 0.
-back_some_number : (l : Layout) (h : Home) (n : ℕ) → back_of h l ≡ refuses n → 0 < n
+pub back_some_number : (l : Layout) (h : Home) (n : ℕ) → back_of h l ≡ refuses n → 0 < n
 unfolding back_of
 back_some_number l h n e = answer_some (checked l (back_refusal h (view l))) (byte_of h (view l)) n e
 
@@ -237,7 +237,7 @@ room_cut (suc n) ps room z = absurd (omega arith)
 
 module _ (l : Layout) (a m : ℕ) (room : List ℕ) where
   -- The number of a request that is refused is not 0,
-  cut_some_number : (n : ℕ) → cut_of a m (length room) l ≡ refuses n → 0 < n
+  pub cut_some_number : (n : ℕ) → cut_of a m (length room) l ≡ refuses n → 0 < n
   unfolding cut_of
   cut_some_number n e = answer_some (checked l (cut_refusal a m (length room) (view l))) (cut_count a m (view l)) n e
 
@@ -248,7 +248,7 @@ module _ (l : Layout) (a m : ℕ) (room : List ℕ) where
       let n = checked l (cut_refusal a m (length room) (view l)) in
       numbers.room_kept n (cut_pieces a m (view l)) room (rw (answer_under n (cut_count a m (view l))) at h)
 
-  cut_refused : (n : ℕ) → refuses n ≡ cut_of a m (length room) l → cut_room l a m room ≡ room
+  pub cut_refused : (n : ℕ) → refuses n ≡ cut_of a m (length room) l → cut_room l a m room ≡ room
   cut_refused n e =
       let same : n ≡ answer_number (cut_of a m (length room) l) = ap answer_number e in
       cut_keeps (omega (arith, same, cut_some_number n (sym e)))

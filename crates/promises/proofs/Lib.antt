@@ -9,3 +9,4 @@ pub mod PromisesOfGrowth
 pub mod PromisesOfRoundTrip
 pub mod PromisesForC
 pub mod Promises
+pub mod PromisesByNumber

@@ -46,13 +46,13 @@ unfolding lent_after
 stored {A} {n} new lent z = rw z
 
 -- An answer that refuses has its number, which is not 0.
-refuses_under : {A : Type 0} (n m : ℕ) (a : A) → refuses n ≡ answer m a → (m ≡ n) × (0 < n)
+pub refuses_under : {A : Type 0} (n m : ℕ) (a : A) → refuses n ≡ answer m a → (m ≡ n) × (0 < n)
 refuses_under n zero a e = absurd (gives_or_refuses a n (sym e))
 refuses_under n (suc m) a e = let same : n ≡ suc m = ap answer_number e in (sym same, omega arith)
 
 module _ (pages : List ℕ) (b : ℕ) (home : List ℕ) where
   -- A lookup that is refused by n.
-  lookup_kept : (n : ℕ) → 0 < n → lookup_number pages b ≡ n
+  pub lookup_kept : (n : ℕ) → 0 < n → lookup_number pages b ≡ n
       → (lookup_number pages b ≡ n) × (home_after pages b home ≡ home)
   unfolding home_after
   lookup_kept n h e = (e, kept n (home_numbers (home_of b (host_components pages))) home h e)
@@ -90,7 +90,7 @@ module _ (pages : List ℕ) (b : ℕ) (home : List ℕ) where
 
 module _ (pages : List ℕ) (h : Home) (offset : ℕ) where
   -- A way back that is refused by n.
-  back_kept : (n : ℕ) → 0 < n → back_number pages h ≡ n
+  pub back_kept : (n : ℕ) → 0 < n → back_number pages h ≡ n
       → (back_number pages h ≡ n) × (offset_after pages h offset ≡ offset)
   unfolding offset_after
   back_kept n p e = (e, kept n (byte_of h (host_components pages)) offset p e)
@@ -129,12 +129,12 @@ module _ (pages : List ℕ) (h : Home) (offset : ℕ) where
 
 module _ (pages : List ℕ) (a m : ℕ) (room : List ℕ) (count : ℕ) where
   -- The call returns n, and leaves what was lent.
-  abbrev CutKept : ℕ → Type 0
+  abbrev pub CutKept : ℕ → Type 0
   CutKept n =
       (cut_number pages a m room ≡ n) × (pieces_after pages a m room ≡ room) × (count_after pages a m room count ≡ count)
 
   -- A request that is refused by n.
-  cut_kept : (n : ℕ) → 0 < n → cut_number pages a m room ≡ n → CutKept n
+  pub cut_kept : (n : ℕ) → 0 < n → cut_number pages a m room ≡ n → CutKept n
   unfolding pieces_after count_after
   cut_kept n h e = (
     e,
@@ -180,7 +180,7 @@ module _ (pages : List ℕ) (a m : ℕ) (room : List ℕ) (count : ℕ) where
   )
 
 -- The answer of a page out that is refused has its number, which is not 0;
-out_refused : (n m : ℕ) (page : List ℕ) → Err n ≡ out_answer m page → (m ≡ n) × (0 < n)
+pub out_refused : (n m : ℕ) (page : List ℕ) → Err n ≡ out_answer m page → (m ≡ n) × (0 < n)
 unfolding out_answer
 out_refused n zero page e = cc
 out_refused n (suc m) page e = let same : n ≡ suc m = cc in (sym same, omega arith)
@@ -193,13 +193,13 @@ out_given k (suc m) page e = cc
 
 module _ (pages : List ℕ) (k : ℕ) (buffer : List ℕ) (written : ℕ) where
   -- The call returns n, and leaves what was lent.
-  abbrev PageKept : ℕ → Type 0
+  abbrev pub PageKept : ℕ → Type 0
   PageKept n =
       (page_number pages k buffer ≡ n) × (buffer_after pages k buffer ≡ buffer)
       × (written_after pages k buffer written ≡ written)
 
   -- A page out that is refused by n.
-  page_kept : (n : ℕ) → 0 < n → page_number pages k buffer ≡ n → PageKept n
+  pub page_kept : (n : ℕ) → 0 < n → page_number pages k buffer ≡ n → PageKept n
   unfolding buffer_after written_after
   page_kept n h e =
       let page = written_page (host_layout pages) k in
@@ -248,14 +248,14 @@ module _ (pages : List ℕ) (k : ℕ) (buffer : List ℕ) (written : ℕ) where
 
 module _ (pages : List ℕ) (offset mark : ℕ) (table grown answers : List ℕ) where
   -- What growth gives of the layout that was read, and the number that the call returns.
-  abbrev out : Outcome
+  abbrev pub out : Outcome
   out = host_grown pages offset mark table
 
   abbrev number : ℕ
   number = grow_number pages offset mark table (length grown)
 
   -- The call returns n, and leaves what was lent.
-  abbrev GrowKept : ℕ → Type 0
+  abbrev pub GrowKept : ℕ → Type 0
   GrowKept n =
       (number ≡ n) × (table_after number table out ≡ table) × (grown_after number grown out ≡ grown)
       × (answer_after number answers out ≡ answers)
@@ -282,7 +282,7 @@ module _ (pages : List ℕ) (offset mark : ℕ) (table grown answers : List ℕ)
   grow_own z = own_number pages (later_number out.answer (room_number out.layout (length grown))) z
 
   -- The number if growth refuses,
-  grow_refused : (host_reading pages).refusal ≡ 0 → (n : ℕ) → refuses n ≡ out.answer → GrowKept n
+  pub grow_refused : (host_reading pages).refusal ≡ 0 → (n : ℕ) → refuses n ≡ out.answer → GrowKept n
   grow_refused z n e =
       let k : Call = record { offset = offset; mark = mark; table = word_table table } in
       grow_kept n (refused_some (host_layout pages) k n (sym e)) (grow_own z ∙ rw (← e))

@@ -51,7 +51,7 @@ grow_one (Ok e) q = absurd (gives_or_refuses _ 1 q)
 grow_one (Err e) q = ap Err (same_number e NotValid (ap answer_number q))
 
 -- A layout that is not complete is not valid.
-not_valid : (l : Layout) → l.complete ≡ false → valid l ≡ false
+pub not_valid : (l : Layout) → l.complete ≡ false → valid l ≡ false
 unfolding valid
 not_valid l e = rw e
 
@@ -69,7 +69,7 @@ module _ (l : Layout) (v : valid l ≡ false) where
   unfolding cut_of
   cut_refuses a m n = rw v
 
-  page_refuses : (k n : ℕ) → out_answer (out_refusal l k n) (written_page l k) ≡ Err 1
+  pub page_refuses : (k n : ℕ) → out_answer (out_refusal l k n) (written_page l k) ≡ Err 1
   unfolding out_answer out_refusal
   page_refuses k n = rw v
 

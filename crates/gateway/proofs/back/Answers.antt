@@ -7,7 +7,7 @@ use Rattle.mapping.specs.Homes.{in_object}
 use Rattle.mapping.specs.Back.{back_refusal, byte_of, back_in, back_says}
 use Rattle.gateway.specs.Host.{back_number, offset_after}
 use Rattle.gateway.specs.LentAnswers.{given_stored, refused_kept}
-use Rattle.gateway.proofs.FoundLaws.{refused_by, found_answer}
+use Rattle.gateway.proofs.FoundLaws.{refused_by, read_answer}
 use Rattle.gateway.proofs.back.Goals as goal
 
 pub returns-in_err-placed : goal.returns-in_err-placed
@@ -25,7 +25,7 @@ returns-in_err-offset c =
     let read = c.in_ok-placed.ensures in
     let home = in_object (object_of c.args.target c.args.number) c.args.byte in
     rw (p.1, p.2) (refused_kept (λ (n : ℕ). n) c.args.offset.now _ _ _
-    (found_answer c.args.pages.now _ (back_refusal home) (byte_of home) (sym read.number) read.placed c.in_err-offset.ensures))
+    (read_answer c.args.pages.now _ (back_refusal home) (byte_of home) (sym read.number) read.placed c.in_err-offset.ensures))
 
 pub returns : goal.returns
 unfolding back_number offset_after back_in back_says
@@ -33,4 +33,4 @@ returns c =
     let read = c.in_ok-placed.ensures in
     let home = in_object (object_of c.args.target c.args.number) c.args.byte in
     given_stored (λ (n : ℕ). n) c.args.offset.now _ _ _
-    (found_answer c.args.pages.now _ (back_refusal home) (byte_of home) (sym read.number) read.placed c.in_ok-offset.ensures)
+    (read_answer c.args.pages.now _ (back_refusal home) (byte_of home) (sym read.number) read.placed c.in_ok-offset.ensures)

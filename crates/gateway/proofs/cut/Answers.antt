@@ -6,7 +6,7 @@ use Rattle.mapping.specs.Cutting.{cut_refusal, cut_count, cut_in, cut_says}
 use Rattle.gateway.specs.Host.{host_components, cut_number, pieces_after, count_after}
 use Rattle.gateway.specs.LentAnswers.{given_stored, refused_kept}
 use Rattle.gateway.proofs.HostLaws.{own_number, room_lent}
-use Rattle.gateway.proofs.FoundLaws.{refused_by, found_answer}
+use Rattle.gateway.proofs.FoundLaws.{refused_by, read_answer}
 use Rattle.gateway.proofs.cut.Goals as goal
 
 pub returns-in_err-read_placed : goal.returns-in_err-read_placed
@@ -27,7 +27,7 @@ returns-in_err-count c =
     let room = a.room.now in
     let own = own_number pages (cut_refusal a.offset a.length (length room) (host_components pages)) (sym read.number) in
     let kept = refused_kept (λ (n : ℕ). n) a.count.now _ _ _
-    (found_answer pages _ (cut_refusal a.offset a.length (length room)) (cut_count a.offset a.length) (sym read.number)
+    (read_answer pages _ (cut_refusal a.offset a.length (length room)) (cut_count a.offset a.length) (sym read.number)
     read.placed c.in_err-count.ensures.0) in
     rw (p.1, p.2) (
       kept.0,
@@ -44,7 +44,7 @@ returns c =
     let room = a.room.now in
     let own = own_number pages (cut_refusal a.offset a.length (length room) (host_components pages)) (sym read.number) in
     let stored = given_stored (λ (n : ℕ). n) a.count.now _ _ _
-    (found_answer pages _ (cut_refusal a.offset a.length (length room)) (cut_count a.offset a.length) (sym read.number)
+    (read_answer pages _ (cut_refusal a.offset a.length (length room)) (cut_count a.offset a.length) (sym read.number)
     read.placed c.in_ok-count.ensures.0) in (
       stored.0,
       rw (own, ← read.placed) (c.in_ok-count.ensures.1 ∙ room_lent _ _ room),

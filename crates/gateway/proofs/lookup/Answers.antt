@@ -7,7 +7,7 @@ use Rattle.mapping.specs.Homes.{home_of}
 use Rattle.mapping.specs.Lookup.{lookup_refusal, lookup_in, lookup_says, home_says}
 use Rattle.gateway.specs.Host.{home_numbers, lookup_number, home_after}
 use Rattle.gateway.specs.LentAnswers.{given_stored, refused_kept}
-use Rattle.gateway.proofs.FoundLaws.{refused_by, found_answer}
+use Rattle.gateway.proofs.FoundLaws.{refused_by, read_answer}
 use Rattle.gateway.proofs.lookup.Goals as goal
 
 pub returns-in_err-read_placed : goal.returns-in_err-read_placed
@@ -25,7 +25,7 @@ returns-in_err-found c =
     let read = c.in_ok-read_placed.ensures in
     let b = c.args.offset in
     rw (p.1, p.2) (refused_kept home_numbers c.args.home.now _ _ _
-    (found_answer c.args.pages.now _ (lookup_refusal b) (home_of b) (sym read.number) read.placed c.in_err-found.ensures))
+    (read_answer c.args.pages.now _ (lookup_refusal b) (home_of b) (sym read.number) read.placed c.in_err-found.ensures))
 
 pub returns : goal.returns
 unfolding lookup_number home_after lookup_in lookup_says
@@ -34,5 +34,5 @@ returns c =
     let b = c.args.offset in
     let found = c.in_ok-found.found in
     let s = given_stored home_numbers c.args.home.now _ _ (some (home_says found))
-    (found_answer c.args.pages.now _ (lookup_refusal b) (home_of b) (sym read.number) read.placed c.in_ok-found.ensures) in
+    (read_answer c.args.pages.now _ (lookup_refusal b) (home_of b) (sym read.number) read.placed c.in_ok-found.ensures) in
     (s.0, ap (λ (t : ℕ). t ∷ found.number ∷ found.byte ∷ []) c.from.ensures ∙ s.1)

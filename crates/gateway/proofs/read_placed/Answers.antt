@@ -1,4 +1,5 @@
 -- `gateway::read_placed` meets its contract: the layout that is read has the components at the places found.
+use Rattle.std.proofs.Common.{sym}
 use Rattle.std.proofs.lemmas.Result.{err_from_is_err_and}
 use Rattle.placed_run.specs.Found.{finds_number}
 use Rattle.gateway.proofs.FoundLaws.{found_components}
@@ -13,4 +14,4 @@ pub returns-clause-number : goal.returns-clause-number
 returns-clause-number c = finds_number c.in_ok-read.ensures
 
 pub returns-clause-placed : goal.returns-clause-placed
-returns-clause-placed c = found_components c.in_ok-read.ensures
+returns-clause-placed c = sym (found_components c.in_ok-read.ensures)

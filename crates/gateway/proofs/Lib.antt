@@ -5,3 +5,4 @@ pub mod HostGrowthNumbers
 pub mod LentStores
 pub mod PageTurns
 pub mod LoadedWords
+pub mod FoundPlaces

@@ -9,7 +9,8 @@ use Rattle.bytes_le.specs.Numbers.{u16_at, u32_at, u64_at, u16_bytes, u32_bytes,
 use Rattle.bytes_le.specs.NumberLaws.{u16_length, u32_length, u64_length, u16_back, u32_back, u64_back, enc_bytes}
 
 -- A list that is copied over the part from `at` on is a run of stores.
-pub copied : {A : Type 0} (l v : List A) (at n : ℕ) → length v ≡ n → at + n ≤ length l → put_mid at (at + n - at) l v ≡ sets l at v
+pub copied : {A : Type 0} (l v : List A) (at n : ℕ) → length v ≡ n → at + n ≤ length l
+    → put_mid at (at + n - at) l v ≡ sets l at v
 copied l v at n e h =
     let k : at + n - at ≡ length v = omega arith in
     rw (k, drop-drop (length v) at l, sets-eq v l at (omega arith), append_assoc)

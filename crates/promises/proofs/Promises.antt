@@ -6,12 +6,13 @@
 -- is a struct or an enum of the code, with its fields or cases. `(x : A) → B` is "B for every x", `×` "and", `↔`
 -- "exactly if", `≡` "equals", `x.f` the field f of x; ℕ are the numbers from 0. l is a layout, c a collector, s the
 -- bytes of a page (ps of several), b a file byte, h a home, o an object, p a byte of it, a and m offset and length of a
--- request, k a page's number, a number of pieces or a call of growth (ks several calls), n a refusal number, e a refusal
--- of the code (`code.Refusal`, whose number is `code_number e`) or what growth did, r an answer: `Ok` or `Err`.
+-- request, k a page's number, a number of pieces or a call of growth (ks several calls), n a refusal number, e a
+-- refusal of the code (`code.Refusal`, whose number is `code_number e`) or what growth did, r an answer: `Ok` or `Err`.
 -- How it is tied to the code. Each public call is in crates/moorsickle/src/lib.rt. None has a `requires`, and each is
 -- proved to end. The contract says of its answer r what is said here: `lookup_says r ≡ lookup_of b l`, and so on; of
--- `take_page` `numbered r ≡ page_in c s .answer`, of `page_out` `numbered r ≡ out_answer ..`, where `numbered` has the number
--- in place of the refusal, of `layout_of` `layout_says r ≡ layout_out c`; and of lent memory that it is what is named here.
+-- `take_page` `numbered r ≡ page_in c s .answer`, of `page_out` `numbered r ≡ out_answer ..`, where `numbered` has the
+-- number in place of the refusal, of `layout_of` `layout_says r ≡ layout_out c`; and of lent memory that it is what is
+-- named here.
 use Rattle.std.specs.Prelude.{ℕ, ◌^◌, ◌<◌, ◌≡◌, Result, Ok, Err, List, ◌↔◌, true, false, length}
 use Rattle.std.proofs.Math.Option.{some}
 use Rattle.std.proofs.lemmas.List.Edits.{sets}

@@ -1,5 +1,5 @@
--- `gateway::back` meets its contract: a refusal of the reading comes first; else what `back` says of the components at the
--- places found is stored.
+-- `gateway::back` meets its contract: a refusal of the reading comes first; else what `back` says of the components
+-- at the places found is stored.
 use Rattle.std.proofs.Common.{sym, ℕ}
 use Rattle.std.proofs.lemmas.Result.{err_from_is_err_and}
 use Rattle.layout.specs.Rows.{object_of}
@@ -25,7 +25,8 @@ returns-in_err-offset c =
     let read = c.in_ok-placed.ensures in
     let home = in_object (object_of c.args.target c.args.number) c.args.byte in
     rw (p.1, p.2) (refused_kept (λ (n : ℕ). n) c.args.offset.now _ _ _
-    (read_answer c.args.pages.now _ (back_refusal home) (byte_of home) (sym read.number) read.placed c.in_err-offset.ensures))
+    (read_answer c.args.pages.now _ (back_refusal home) (byte_of home) (sym read.number) read.placed
+    c.in_err-offset.ensures))
 
 pub returns : goal.returns
 unfolding back_number offset_after back_in back_says
@@ -33,4 +34,5 @@ returns c =
     let read = c.in_ok-placed.ensures in
     let home = in_object (object_of c.args.target c.args.number) c.args.byte in
     given_stored (λ (n : ℕ). n) c.args.offset.now _ _ _
-    (read_answer c.args.pages.now _ (back_refusal home) (byte_of home) (sym read.number) read.placed c.in_ok-offset.ensures)
+    (read_answer c.args.pages.now _ (back_refusal home) (byte_of home) (sym read.number) read.placed
+    c.in_ok-offset.ensures)

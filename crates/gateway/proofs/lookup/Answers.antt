@@ -1,5 +1,5 @@
--- `gateway::lookup` meets its contract: a refusal of the reading comes first; else what `lookup` says of the components at
--- the places found is stored.
+-- `gateway::lookup` meets its contract: a refusal of the reading comes first; else what `lookup` says of the components
+-- at the places found is stored.
 use Rattle.std.proofs.Common.{sym, ap, ◌∙◌, ℕ, [], ◌∷◌}
 use Rattle.std.proofs.Math.Option.{some}
 use Rattle.std.proofs.lemmas.Result.{err_from_is_err_and}
@@ -25,7 +25,8 @@ returns-in_err-found c =
     let read = c.in_ok-read_placed.ensures in
     let b = c.args.offset in
     rw (p.1, p.2) (refused_kept home_numbers c.args.home.now _ _ _
-    (read_answer c.args.pages.now _ (lookup_refusal b) (home_of b) (sym read.number) read.placed c.in_err-found.ensures))
+    (read_answer c.args.pages.now _ (lookup_refusal b) (home_of b) (sym read.number) read.placed
+    c.in_err-found.ensures))
 
 pub returns : goal.returns
 unfolding lookup_number home_after lookup_in lookup_says
@@ -34,5 +35,6 @@ returns c =
     let b = c.args.offset in
     let found = c.in_ok-found.found in
     let s = given_stored home_numbers c.args.home.now _ _ (some (home_says found))
-    (read_answer c.args.pages.now _ (lookup_refusal b) (home_of b) (sym read.number) read.placed c.in_ok-found.ensures) in
+    (read_answer c.args.pages.now _ (lookup_refusal b) (home_of b) (sym read.number) read.placed
+    c.in_ok-found.ensures) in
     (s.0, ap (λ (t : ℕ). t ∷ found.number ∷ found.byte ∷ []) c.from.ensures ∙ s.1)

@@ -1,5 +1,5 @@
--- `gateway::page` meets its contract: a refusal of the reading comes first; else `write_page` writes the page of the layout
--- that is read, and its number of bytes is stored.
+-- `gateway::page` meets its contract: a refusal of the reading comes first; else `write_page` writes the page of the
+-- layout that is read, and its number of bytes is stored.
 use Rattle.std.proofs.Common.{◌∙◌, sym, length}
 use Rattle.std.proofs.lemmas.Result.{err_from_is_err_and}
 use Rattle.paging.specs.Paging.{write_refusal}
@@ -28,7 +28,8 @@ returns-in_err-written c =
     let p = err_from_is_err_and r.result r.ensures.1 in
     let a = c.args in
     let l = c.in_ok-l.ensures in
-    let own = own_number a.pages.now (write_refusal (host_layout a.pages.now) a.number (length a.buffer.now)) (sym l.number) in
+    let number = write_refusal (host_layout a.pages.now) a.number (length a.buffer.now) in
+    let own = own_number a.pages.now number (sym l.number) in
     let answer = rw l.layout at c.in_err-written.ensures.0 in
     let after = rw l.layout at c.in_err-written.ensures.1 in
     let kept = page_kept a.written.now _ _ _ answer in
@@ -39,7 +40,8 @@ unfolding page_number buffer_after written_after
 returns c =
     let a = c.args in
     let l = c.in_ok-l.ensures in
-    let own = own_number a.pages.now (write_refusal (host_layout a.pages.now) a.number (length a.buffer.now)) (sym l.number) in
+    let number = write_refusal (host_layout a.pages.now) a.number (length a.buffer.now) in
+    let own = own_number a.pages.now number (sym l.number) in
     let answer = rw l.layout at c.in_ok-written.ensures.0 in
     let after = rw l.layout at c.in_ok-written.ensures.1 in
     let stored = page_stored a.written.now _ _ _ answer in

@@ -1,4 +1,5 @@
--- `moorsickle::grow` meets its contract: the layout and the table afterwards are those of growth, or stay if it refuses.
+-- `moorsickle::grow` meets its contract: the layout and the table afterwards are those of growth, or stay if it
+-- refuses.
 use Rattle.std.proofs.lemmas.Result.{err_from_is_err_and}
 use Rattle.growth.specs.Answers as growth
 use Rattle.moorsickle.proofs.grow.Goals as goal

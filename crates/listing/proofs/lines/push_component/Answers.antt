@@ -1,4 +1,5 @@
--- `listing::lines::push_component` meets its contract: what std prints of a number is `decimal`, and of a signed one `signed`.
+-- `listing::lines::push_component` meets its contract: what std prints of a number is `decimal`, and of a signed one
+-- `signed`.
 use Rattle.std.specs.Int.{w16, w32, w64}
 use Rattle.std.specs.Prelude.{FitsSigned}
 use Rattle.std.proofs.Common.{arith, rules, to_z-of_z, append_assoc, Fits}

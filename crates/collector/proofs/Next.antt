@@ -43,7 +43,8 @@ next_is s places h l next k e f =
     f ∙ ap (λ (x : List Component). joined h l x) cs ∙ ap (λ (x : Head). joined x l (components_of s)) e
 
 -- A page of good form that was walked, taken into a collector that keeps the rules; its head was decoded as h.
-module _ (c : Collector) (s places : List ℕ) (h : Head) (k : collector_ok c ≡ true) (w : Walked s places) (e : h ≡ head_of s) where
+module _ (c : Collector) (s places : List ℕ) (h : Head) (k : collector_ok c ≡ true) (w : Walked s places)
+    (e : h ≡ head_of s) where
   -- With it there are at most 28 components, so their number fits.
   pub few_after : c.layout.count + h.count ≤ 28
   few_after = omega (arith, (sound_facts c k).few, w.few, count_is s h e, length_components s)
@@ -89,7 +90,11 @@ module _ (c : Collector) (s places : List ℕ) (h : Head) (k : collector_ok c �
       refused_by (suc n) q z = rw (refusal_is, ← q)
 
       pub taken : 0 ≡ rule_broken h.more (view next)
-          → record { answer = Ok (cond h.more More Complete); collector = record { pages = c.pages + 1; layout = next } }
+          → record {
+            answer = Ok (cond h.more More Complete);
+            collector =
+                record { pages = c.pages + 1; layout = next };
+          }
           ≡ content_in c (head_of s) (components_of s)
       unfolding settled
       taken q = rw (refusal_is, ← q, next_joined, e)

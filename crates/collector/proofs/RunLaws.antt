@@ -1,5 +1,6 @@
 -- Laws of reading a run, for a collector that keeps the rules: what the reading is by what is next.
-use Rattle.std.specs.Prelude.{ℕ, zero, suc, ◌+◌, ◌-◌, ◌≤◌, ◌<◌, ◌≡◌, refl, List, [], ◌∷◌, Bool, true, false, cond, eqb, length}
+use Rattle.std.specs.Prelude.{ℕ, zero, suc, ◌+◌, ◌-◌, ◌≤◌, ◌<◌, ◌≡◌, refl, List, [], ◌∷◌, Bool, true, false, cond, eqb}
+use Rattle.std.specs.Prelude.{length}
 use Rattle.std.specs.Result.{MatchResult}
 use Rattle.std.proofs.Common.{Result, Ok, Err, sym, subst, ◌∙◌, arith, eqb-true, eq-eqb, ne_eqb}
 use Rattle.std.proofs.Math.Path.{ap}
@@ -18,7 +19,8 @@ use Rattle.collector.specs.declared.run.RefusedPage.{RefusedPage}
 use Rattle.collector.specs.Collector.{new_collector}
 use Rattle.refusals.specs.Refusals.{number_of as refusal_number, number_pos}
 use Rattle.collector.specs.declared.Answer.{Answer}
-use Rattle.collector.specs.Taking.{Taken, take_says, number_of, added, content_refusal, open_refusal, settled, open_in, page_in}
+use Rattle.collector.specs.Taking.{Taken, take_says, number_of, added, content_refusal, open_refusal, settled, open_in}
+use Rattle.collector.specs.Taking.{page_in}
 use Rattle.collector.specs.TakingLaws.{settled_number, refused_open, refused_2, refused_3, refused_content}
 use Rattle.collector.specs.Sound.{Sound, facts_sound, sound_added}
 use Rattle.std.specs.Borrow.{Bor}
@@ -142,7 +144,8 @@ module _ (c : Collector) (h : Held c) (cut : List ℕ → Next) (s : List ℕ) (
   pub ends_refused : (f : Refusal) → r ≡ Err f → read_from cut c s ≡ refused_at (refusal_number f) c.pages
   unfolding number_of
   ends_refused f q =
-      let k : number_of (open_in c p).answer ≡ refusal_number f = ap (λ (x : Taken). number_of x.answer) (sym t) ∙ rw q in
+      let k : number_of (open_in c p).answer ≡ refusal_number f = ap (λ (x : Taken). number_of x.answer) (sym t)
+      ∙ rw q in
       read_refused c h cut s e p rest page_next (refusal_number f) k (number_pos f)
 
   module _ (a : Answer) (q : r ≡ Ok a) where
@@ -161,7 +164,8 @@ module _ (c : Collector) (h : Held c) (cut : List ℕ → Next) (s : List ℕ) (
 
 -- The pages that may still come, n of them, never run out before the collector is complete or a page is refused.
 module _ (cut : List ℕ → Next) where
-  on_enough : (n : ℕ) → ((d : Collector) (t : List ℕ) → Held d → 17 ≤ n + d.pages → read_on cut n d t ≡ read_from cut d t)
+  on_enough : (n : ℕ) → ((d : Collector) (t : List ℕ) → Held d → 17 ≤ n + d.pages
+      → read_on cut n d t ≡ read_from cut d t)
       → (c : Collector) → Held c → 17 ≤ suc n + c.pages → (x : Next)
       → following (read_on cut n) c x ≡ following (read_on cut (16 - c.pages)) c x
   on_enough n ih c h k ended = refl
@@ -177,7 +181,8 @@ module _ (cut : List ℕ → Next) where
       rw e (ih d rest (taken_held c h p z) (omega arith) ∙ ap (λ (j : ℕ). read_on cut j d rest) l))
       (λ e. rw e))
 
-  pub read_enough : (n : ℕ) (c : Collector) (s : List ℕ) → Held c → 17 ≤ n + c.pages → read_on cut n c s ≡ read_from cut c s
+  pub read_enough : (n : ℕ) (c : Collector) (s : List ℕ) → Held c → 17 ≤ n + c.pages
+      → read_on cut n c s ≡ read_from cut c s
   read_enough zero c s h k = absurd (omega (arith, h.sound.within, h.sound.few))
   read_enough (suc n) c s h k =
       let by : Bool → Reading = λ b. cond b (closed c s) (following (read_on cut n) c (cut s)) in

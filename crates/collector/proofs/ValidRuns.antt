@@ -14,7 +14,8 @@ use Rattle.collector.specs.Runs.{Next, Reading, ended, broken, next, closed, fol
 use Rattle.collector.proofs.RunLaws.{Held, page_open, taken_held, new_held}
 
 -- The layout of a collector that keeps the rules and is complete is valid.
-gathered_valid : (c : Collector) → Held c → c.layout.complete ≡ true → valid (packed c.layout.generation (gathered c)) ≡ true
+gathered_valid : (c : Collector) → Held c → c.layout.complete ≡ true → valid (packed c.layout.generation (gathered c))
+    ≡ true
 gathered_valid c h e =
     let g = c.layout.generation in
     let few : length (gathered c) ≤ 16 = omega (arith, h.sound.whole, h.sound.few) in

@@ -2,7 +2,8 @@
 use Prim.Native.Nat.{ℕ, zero, suc, ◌+◌, ◌-◌, ◌≤◌, ◌<◌}
 use Rattle.std.specs.Prelude.{◌≡◌, Bool, true, false, cond, ltb, ◌&&◌, leb, length, get_or, drop, set, replicate, ◌⊎◌}
 use Rattle.std.proofs.Math.Path.{refl}
-use Rattle.std.proofs.Common.{inl, inr, sym, ap, ◌∙◌, arith, zero-add, length-append, leb-true, ltb-true, ltb-false, ne_eqb, get_or-take}
+use Rattle.std.proofs.Common.{inl, inr, sym, ap, ◌∙◌, arith, zero-add, length-append, leb-true, ltb-true, ltb-false}
+use Rattle.std.proofs.Common.{ne_eqb, get_or-take}
 use mathlib.Core.List.{List, [], ◌∷◌, ◌++◌, map}
 use Rattle.std.proofs.Math.Nat.{sub-zero, suc-sub-suc}
 use Rattle.std.proofs.Math.ListN.{take, length-take, length-map, get_or-map}
@@ -27,12 +28,14 @@ pub table_facts : (rs : List TargetRecord) → table_ok rs ≡ true → (length 
 unfolding table_ok
 table_facts rs e = let p = both_true (leb (length rs) 64) (rising 0 rs) e in (leb-true (length rs) 64 p.0, p.1)
 
--- Of a table that is not bad the count is at most 64: its array has 65 places, so a higher count means more than 64 records.
+-- Of a table that is not bad the count is at most 64: its array has 65 places, so a higher count means more than 64
+-- records.
 pub table_count : (t : Table) → length t.records ≡ 65 → table_ok (table_of t) ≡ true → t.count ≤ 64
 table_count t h e = omega (arith, (table_facts (table_of t) e).0, length-take t.count t.records)
 
 -- The next object of the record at a place.
-pub next_at : (rs : List TargetRecord) (i : ℕ) → get_or (map next_object rs) i no_object ≡ next_object (get_or rs i no_record)
+pub next_at : (rs : List TargetRecord) (i : ℕ) → get_or (map next_object rs) i no_object
+    ≡ next_object (get_or rs i no_record)
 next_at rs i = get_or-map next_object rs i no_record
 
 -- Of the next objects of rising records, none has a target below those of the records,
@@ -71,7 +74,8 @@ more_chosen os more =
     λ i. record { count = n i; items = x i }
 
 -- Objects put after a choice, and more after these, are both put after it.
-pub more_twice : (choice : Choice) (os more : List Object) → with_more (with_more choice os) more ≡ with_more choice (os ++ more)
+pub more_twice : (choice : Choice) (os more : List Object)
+    → with_more (with_more choice os) more ≡ with_more choice (os ++ more)
 more_twice choice os more =
     let n : choice.count + length os + length more ≡ choice.count + length (os ++ more) =
     omega (arith, length-append os more) in
@@ -170,7 +174,8 @@ module _ (ok : TargetRecord → Bool) where
       (λ u. rising_lower from (r.target + 1) (passing ok rs) (omega arith) q)
 
   -- and so do the first s of them.
-  first_rise : (from s : ℕ) (rs : List TargetRecord) → rising from rs ≡ true → rising from (take s (passing ok rs)) ≡ true
+  first_rise : (from s : ℕ) (rs : List TargetRecord) → rising from rs ≡ true
+      → rising from (take s (passing ok rs)) ≡ true
   first_rise from s rs e =
       rw (← take_along target_ok target_above s from (passing ok rs))
       (every_take s (along target_ok target_above from (passing ok rs)) (passing_rises from rs e))
@@ -223,8 +228,10 @@ choice_more ok choice w r rs h =
     let z : w - choice.count ≡ 0 = omega arith in
     rw (z, chosen_none ok rs, chosen_none ok (r ∷ rs))))
 
--- If the targets of at most 16 objects are at most n, so is that in the first place that they are packed into, blank or not.
-pub first_packed : (os : List Object) (n : ℕ) → length os ≤ 16 → ((i : ℕ) → i < length os → (get_or os i no_object).target ≤ n)
+-- If the targets of at most 16 objects are at most n, so is that in the first place that they are packed into, blank or
+-- not.
+pub first_packed : (os : List Object) (n : ℕ) → length os ≤ 16
+    → ((i : ℕ) → i < length os → (get_or os i no_object).target ≤ n)
     → (get_or (pack_objects os) 0 no_object).target ≤ n
 unfolding pack_objects
 first_packed [] n h f = omega arith
@@ -249,7 +256,8 @@ module _ (ok : TargetRecord → Bool) where
       ap (λ (qs : List TargetRecord). r ∷ qs) (raised_turn left i rs (omega arith) p e)
 
   -- None is to be raised, or the record at i does not pass: it is passed over.
-  pub passed_turn : (left i : ℕ) (rs : List TargetRecord) → i < length rs → (left ≡ 0) ⊎ (ok (get_or rs i no_record) ≡ false)
+  pub passed_turn : (left i : ℕ) (rs : List TargetRecord) → i < length rs
+      → (left ≡ 0) ⊎ (ok (get_or rs i no_record) ≡ false)
       → raised_from ok left (suc i) rs ≡ raised_from ok left i rs
   passed_turn left i [] h e = absurd (omega arith)
   passed_turn zero zero (r ∷ rs) h e = rw (raised_none ok rs)

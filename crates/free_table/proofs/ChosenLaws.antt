@@ -25,7 +25,8 @@ elem_after : (x o : Object) (os : List Object) → elem same_object x os ≡ tru
 elem_after x o os e = bool_cases (same_object x o) (λ q. rw q) (λ q. rw q e)
 
 -- and they are below a target that they and it are below.
-below_cons : (o : Object) (os : List Object) (target : ℕ) → o.target < target → AllBelow os target → AllBelow (o ∷ os) target
+below_cons : (o : Object) (os : List Object) (target : ℕ) → o.target < target → AllBelow os target
+    → AllBelow (o ∷ os) target
 below_cons o os target h f zero k = h
 below_cons o os target h f (suc j) k = f j (omega arith)
 
@@ -58,7 +59,8 @@ module _ (ok : TargetRecord → Bool) where
   place_after : (r q : TargetRecord) (rs : List TargetRecord) → PlaceOf ok rs q → PlaceOf ok (r ∷ rs) q
   place_after r q rs p = (suc p.0, omega (arith, p.1), p.2, p.3)
 
-  passing_place : (rs : List TargetRecord) (j : ℕ) → j < length (passing ok rs) → PlaceOf ok rs (get_or (passing ok rs) j no_record)
+  passing_place : (rs : List TargetRecord) (j : ℕ) → j < length (passing ok rs)
+      → PlaceOf ok rs (get_or (passing ok rs) j no_record)
   passing_place [] j h = absurd (omega arith)
   passing_place (r ∷ rs) zero h = bool_cases (ok r) (λ e. rw e (0, omega arith, e, refl))
       (λ e. rw e (place_after r (get_or (passing ok rs) 0 no_record) rs (passing_place rs 0 (rw e at h))))
@@ -90,13 +92,18 @@ module _ (ok : TargetRecord → Bool) where
       let k = target_above_lem (r.target + 1) rs p.2 i (omega arith) in
       rw (chosen_cons ok s r rs)
       (bool_cases (ok r)
-      (λ q. rw q (⊎_elim (λ w. inl (elem_after (next_object (get_or rs i no_record)) (next_object r) (chosen ok s rs) w))
-      (λ w. inr (ap suc w.0, below_cons (next_object r) (chosen ok s rs) (get_or rs i no_record).target (omega arith) w.1))
+      (λ q. rw q (⊎_elim (λ w. inl (elem_after (next_object (get_or rs i no_record)) (next_object r) (chosen ok s rs)
+      w))
+      (λ w. inr (
+        ap suc w.0,
+        below_cons (next_object r) (chosen ok s rs) (get_or rs i no_record).target (omega arith)
+            w.1,
+      ))
       (chosen_lowest (r.target + 1) s rs p.2 i (omega arith) u)))
       (λ q. rw q (chosen_lowest (r.target + 1) (suc s) rs p.2 i (omega arith) u)))
 
-  -- "Nothing else in the table changes": of a rising table, the records whose next objects were chosen are raised, and the
-  -- others stay.
+  -- "Nothing else in the table changes": of a rising table, the records whose next objects were chosen are raised, and
+  -- the others stay.
   pub raised_chosen : (from s : ℕ) (rs : List TargetRecord) → rising from rs ≡ true
       → raised_first ok s rs ≡ map (raised_in (chosen ok s rs)) rs
   raised_chosen from s [] e = refl

@@ -1,5 +1,6 @@
 -- Laws of a free table that is lent as a list of records: how it is loaded and written back record by record.
-use Rattle.std.specs.Prelude.{ℕ, zero, suc, ◌+◌, ◌≤◌, ◌<◌, ◌≡◌, List, [], ◌∷◌, ◌++◌, Bool, leb, get_or, take, drop, replicate}
+use Rattle.std.specs.Prelude.{ℕ, zero, suc, ◌+◌, ◌≤◌, ◌<◌, ◌≡◌, List, [], ◌∷◌, ◌++◌, Bool, leb, get_or, take, drop}
+use Rattle.std.specs.Prelude.{replicate}
 use Rattle.std.proofs.Math.Path.{refl}
 use Rattle.std.proofs.Common.{ap, sym, ◌∙◌, arith, add-one, take_all, leb-true, leb-false, take-append-drop}
 use Rattle.std.proofs.Math.Nat.{zero-add}
@@ -12,7 +13,8 @@ use Rattle.free_table.specs.declared.TargetRecord.{TargetRecord}
 use Rattle.free_table.specs.Table.{Table, no_record, table_of, with_records}
 use Rattle.free_table.specs.Choosing.{raised_first}
 use Rattle.free_table.proofs.ChoosingLaws.{take_count}
-use Rattle.free_table.specs.LentTable.{places_of, empty_table, with_record, loaded_first, loaded_of, with_next, with_nexts}
+use Rattle.free_table.specs.LentTable.{places_of, empty_table, with_record, loaded_first, loaded_of, with_next}
+use Rattle.free_table.specs.LentTable.{with_nexts}
 
 -- The 65 places of a table with no record in them.
 abbrev blank : List TargetRecord
@@ -35,7 +37,8 @@ module _ (rs : List TargetRecord) where
   load_none = refl
 
   -- one record more,
-  pub load_more : (i : ℕ) → i < length rs → with_record (loaded_first i rs) i (get_or rs i no_record) ≡ loaded_first (i + 1) rs
+  pub load_more : (i : ℕ) → i < length rs → with_record (loaded_first i rs) i (get_or rs i no_record)
+      ≡ loaded_first (i + 1) rs
   unfolding loaded_first with_record empty_table
   load_more i h =
       let n : 0 + length (take i rs) ≡ i = zero-add (length (take i rs)) ∙ length-take-le i rs (omega arith) in
@@ -67,7 +70,8 @@ module _ (rs : List TargetRecord) where
 
 -- Writing back record by record: one next number more,
 write_suc : (rs ss : List TargetRecord) (i : ℕ) → i < length rs → i < length ss
-    → set (with_nexts rs (take i ss)) i (with_next (get_or (with_nexts rs (take i ss)) i no_record) (get_or ss i no_record).next)
+    → set (with_nexts rs (take i ss)) i (with_next (get_or (with_nexts rs (take i ss)) i no_record)
+    (get_or ss i no_record).next)
     ≡ with_nexts rs (take (suc i) ss)
 write_suc [] ss i h k = absurd (omega arith)
 write_suc (r ∷ rs) [] i h k = absurd (omega arith)
@@ -76,7 +80,8 @@ write_suc (r ∷ rs) (s ∷ ss) (suc i) h k =
     ap (λ (l : List TargetRecord). with_next r s.next ∷ l) (write_suc rs ss i (omega arith) (omega arith))
 
 pub write_more : (rs ss : List TargetRecord) (i : ℕ) → i < length rs → i < length ss
-    → set (with_nexts rs (take i ss)) i (with_next (get_or (with_nexts rs (take i ss)) i no_record) (get_or ss i no_record).next)
+    → set (with_nexts rs (take i ss)) i (with_next (get_or (with_nexts rs (take i ss)) i no_record)
+    (get_or ss i no_record).next)
     ≡ with_nexts rs (take (i + 1) ss)
 write_more rs ss i h k = rw (add-one i) (write_suc rs ss i h k)
 

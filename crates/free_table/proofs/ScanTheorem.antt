@@ -1,6 +1,7 @@
 -- What is known of a free table after it was scanned: whether it is bad, and of a good one what was chosen and whether
 -- a target that was asked for is low. It is what the definitions over the whole table say.
-use Rattle.std.specs.Prelude.{ℕ, zero, suc, ◌+◌, ◌-◌, ◌≤◌, ◌<◌, ◌≡◌, Some, None, is_some, Bool, true, false, cond, ◌&&◌, ◌||◌, eqb, length, get_or, take, replicate}
+use Rattle.std.specs.Prelude.{ℕ, zero, suc, ◌+◌, ◌-◌, ◌≤◌, ◌<◌, ◌≡◌, Some, None, is_some, Bool, true, false, cond, ◌&&◌}
+use Rattle.std.specs.Prelude.{◌||◌, eqb, length, get_or, take, replicate}
 use Rattle.std.proofs.Math.Path.{refl, ap}
 use Rattle.std.proofs.Common.{sym, ◌∙◌, arith, ne_eqb, eqb-true}
 use mathlib.Core.List.{List, [], ◌∷◌}
@@ -16,7 +17,8 @@ use Rattle.free_table.specs.declared.TargetRecord.{TargetRecord}
 use Rattle.free_table.specs.declared.Scan.{Scan}
 use Rattle.free_table.specs.Table.{listed, no_record, target_ok, rising, free_below, is_low, any_low, usable}
 use Rattle.free_table.specs.Choosing.{chosen, choice_of, with_more}
-use Rattle.free_table.specs.Scanning.{Targets, pack_targets, new_scan, with_refusal, eligible, low_by, lows_after, told, seen, scanned, any_set, some_low}
+use Rattle.free_table.specs.Scanning.{Targets, pack_targets, new_scan, with_refusal, eligible, low_by, lows_after, told}
+use Rattle.free_table.specs.Scanning.{seen, scanned, any_set, some_low}
 use Rattle.free_table.proofs.TableLaws.{first_rises}
 use Rattle.free_table.proofs.ChoosingLaws.{more_chosen, more_none, chosen_nil, choice_more}
 use Rattle.free_table.proofs.ChosenLaws.{chosen_usable}
@@ -63,7 +65,8 @@ first_told s r rs e h =
     (ap (λ (v : Scan). scanned v rs) (seen_good s r e p.0), p.1)
 
 -- Records that rise are not refused.
-good_from : (s : Scan) (rs : List TargetRecord) → s.refusal ≡ None → rising s.from rs ≡ true → (scanned s rs).refusal ≡ None
+good_from : (s : Scan) (rs : List TargetRecord) → s.refusal ≡ None → rising s.from rs ≡ true
+    → (scanned s rs).refusal ≡ None
 unfolding told
 good_from s [] e h = e
 good_from s (r ∷ rs) e h =
@@ -111,7 +114,8 @@ else_below mark from (r ∷ rs) e t was h =
     rw (ne_eqb r.target t (λ q. omega arith)) (else_below mark (r.target + 1) rs p.2 t was (omega arith))
 
 -- What the first record says of a target, the others leave: a target is once in a rising table.
-else_first : (mark from : ℕ) (r : TargetRecord) (rs : List TargetRecord) → rising from (r ∷ rs) ≡ true → (t : ℕ) (was : Bool)
+else_first : (mark from : ℕ) (r : TargetRecord) (rs : List TargetRecord) → rising from (r ∷ rs) ≡ true
+    → (t : ℕ) (was : Bool)
     → low_else mark rs t (low_by r.target (free_below mark r) t was) ≡ low_else mark (r ∷ rs) t was
 else_first mark from r rs e t was =
     let p = first_rises from r rs e in
@@ -182,7 +186,8 @@ module _ (n mark : ℕ) (asked out : Targets) (w : ℕ) (rs : List TargetRecord)
     scan_good = good_from (new_scan n mark asked out w) rs refl e
 
     -- the first targets that are usable and not left out are chosen, as many as are wanted, or all if they are fewer,
-    pub scan_choice : (scanned (new_scan n mark asked out w) rs).choice ≡ choice_of (chosen (eligible mark (listed out)) w rs)
+    pub scan_choice : (scanned (new_scan n mark asked out w) rs).choice
+        ≡ choice_of (chosen (eligible mark (listed out)) w rs)
     unfolding new_scan
     scan_choice =
         choice_from (new_scan n mark asked out w) rs refl e (omega arith)

@@ -1,5 +1,6 @@
 -- Laws of the free table: rising targets, low targets and usable ones.
-use Rattle.std.specs.Prelude.{ℕ, zero, suc, ◌+◌, ◌≤◌, ◌<◌, ◌≡◌, refl, List, [], ◌∷◌, true, false, not, ◌&&◌, ltb, leb, length, get_or}
+use Rattle.std.specs.Prelude.{ℕ, zero, suc, ◌+◌, ◌≤◌, ◌<◌, ◌≡◌, refl, List, [], ◌∷◌, true, false, not, ◌&&◌, ltb, leb}
+use Rattle.std.specs.Prelude.{length, get_or}
 use Rattle.std.proofs.Common.{◌∙◌, arith}
 use borrow.Author.Tests.{ltb-true, leb-true, le-leb, eq-eqb, ne_eqb, not-true}
 use Rattle.lists.specs.Bools.{both_true, true_both}
@@ -8,7 +9,8 @@ use Rattle.free_table.specs.Table.{no_record, rising, free_below, is_low, usable
 
 -- What the first record of a rising table says: its target is in bounds, and those after it are above it.
 module _ (from : ℕ) (r : TargetRecord) (rs : List TargetRecord) where
-  pub first_rises : rising from (r ∷ rs) ≡ true → (from ≤ r.target) × (r.target ≤ 65534) × (rising (r.target + 1) rs ≡ true)
+  pub first_rises : rising from (r ∷ rs) ≡ true → (from ≤ r.target) × (r.target ≤ 65534)
+      × (rising (r.target + 1) rs ≡ true)
   first_rises e =
       let p = both_true (leb from r.target && leb r.target 65534) (rising (r.target + 1) rs) e in
       let q = both_true (leb from r.target) (leb r.target 65534) p.0 in

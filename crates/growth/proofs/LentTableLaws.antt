@@ -1,5 +1,5 @@
--- A free table that is lent as a list of records: growth of the table that is loaded from it, written back, is growth of the whole
--- list.
+-- A free table that is lent as a list of records: growth of the table that is loaded from it, written back, is growth
+-- of the whole list.
 use Rattle.std.specs.Prelude.{ℕ, ◌≤◌, ◌<◌, ◌≡◌, List, false, cond, leb, take, Result}
 use Rattle.std.proofs.Math.Path.{refl}
 use Rattle.std.proofs.Common.{ap, ◌∙◌, ⊎_elim, arith, take_all, leb-true, leb-false}
@@ -15,7 +15,8 @@ use Rattle.free_table.specs.declared.TargetRecord.{TargetRecord}
 use Rattle.free_table.specs.Table.{Table, table_of, with_records, table_ok, usable}
 use Rattle.free_table.specs.LentTable.{places_of, loaded_of, with_nexts}
 use Rattle.free_table.proofs.ChoosingLaws.{table_facts}
-use Rattle.free_table.proofs.LentTableLaws.{loaded_places, loaded_count, loaded_table, own_nexts, same_nexts, raised_nexts, raised_length}
+use Rattle.free_table.proofs.LentTableLaws.{loaded_places, loaded_count, loaded_table, own_nexts, same_nexts}
+use Rattle.free_table.proofs.LentTableLaws.{raised_nexts, raised_length}
 use Rattle.growth_rules.specs.Steps.{Call}
 use Rattle.growth_rules.specs.Growing.{refusing, grow_in, grow_of}
 use Rattle.growth_rules.specs.CallFacts.{Changes}
@@ -55,13 +56,14 @@ long_refused l k h =
     (λ v. rw v refl)
 
 -- A table that was loaded, with as many records as it has in place of them, has these records.
-loaded_with : (rs ss : List TargetRecord) → length ss ≡ length (take 65 rs) → table_of (with_records (loaded_of rs) ss) ≡ ss
+loaded_with : (rs ss : List TargetRecord) → length ss ≡ length (take 65 rs) → table_of (with_records (loaded_of rs) ss)
+    ≡ ss
 loaded_with rs ss h =
     let n : (loaded_of rs).count ≡ length ss = loaded_count rs ∙ omega (arith, length-take 65 rs) in
     rw n (take_sets (loaded_of rs).records ss (omega (arith, loaded_places rs, length-take 65 rs)))
 
--- Growth of the table that was loaded from lent records, with its next numbers written back to them, is growth of all those
--- records.
+-- Growth of the table that was loaded from lent records, with its next numbers written back to them, is growth of all
+-- those records.
 module _ (l : Layout) (offset mark : ℕ) (rs : List TargetRecord) where
   -- The call with all the records, and the one with the table that was loaded.
   abbrev all : Call
@@ -93,10 +95,12 @@ module _ (l : Layout) (offset mark : ℕ) (rs : List TargetRecord) where
 
   grown_same : Same
   grown_same =
-      bool_cases (leb (length rs) 64) (λ e. short_same (leb-true (length rs) 64 e)) (λ e. long_same (leb-false (length rs) 64 e))
+      bool_cases (leb (length rs) 64) (λ e. short_same (leb-true (length rs) 64 e))
+      (λ e. long_same (leb-false (length rs) 64 e))
 
   -- What growth gave for the table that was loaded, and that table with the records afterwards in its places.
-  module _ (r : Result Grown Refusal) (ss : List TargetRecord) (given : GrownSays l r ss (grow_of l seen)) (t : Table) (stored : t ≡ with_records (loaded_of rs) ss) where
+  module _ (r : Result Grown Refusal) (ss : List TargetRecord) (given : GrownSays l r ss (grow_of l seen)) (t : Table)
+      (stored : t ≡ with_records (loaded_of rs) ss) where
     -- It has as many records as were loaded,
     pub grown_count : t.count ≡ places_of (length rs)
     grown_count = ap (λ (u : Table). u.count) stored ∙ loaded_count rs

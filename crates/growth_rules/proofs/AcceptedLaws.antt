@@ -1,5 +1,5 @@
--- A call that is accepted and changes nothing: its offset has a home. So no growth accepts every call and does nothing. What is
--- in quotes is document 01's.
+-- A call that is accepted and changes nothing: its offset has a home. So no growth accepts every call and does nothing.
+-- What is in quotes is document 01's.
 use Rattle.std.specs.Prelude.{ℕ, ◌<◌, ◌≡◌, true, false, ◌&&◌, ◌||◌, ltb, leb, eqb, length}
 use Rattle.std.proofs.Math.Path.{sym}
 use Rattle.std.proofs.Common.{ap, ◌∙◌, lt-ltb, leb-false}
@@ -22,9 +22,11 @@ use Rattle.mapping.specs.HomeLaws.{has_home_lem}
 use Rattle.free_table.specs.Table.{usable, any_low, table_ok}
 use Rattle.free_table.specs.Choosing.{chosen}
 use Rattle.growth_rules.specs.Parts.{fresh_id}
-use Rattle.growth_rules.specs.Steps.{Call, Step, stays, lacks, changes, step_after, choosing, held_step, spill_step, low_step}
+use Rattle.growth_rules.specs.Steps.{Call, Step, stays, lacks, changes, step_after, choosing, held_step, spill_step}
+use Rattle.growth_rules.specs.Steps.{low_step}
 use Rattle.growth_rules.specs.Steps.{extension_step, step_on}
-use Rattle.growth_rules.specs.Growing.{Effect, Outcome, meets, highest_generation, step_of, outcome_of, grow_in, grow_of}
+use Rattle.growth_rules.specs.Growing.{Effect, Outcome, meets, highest_generation, step_of, outcome_of, grow_in}
+use Rattle.growth_rules.specs.Growing.{grow_of}
 
 module _ (k : Call) where
   -- If a step on the components cs changes nothing, the offset lies in an init component.
@@ -34,13 +36,15 @@ module _ (k : Call) where
   InitIfStays cs (changes t os) = Unit {0}
 
   -- With a component before them.
-  after_init : (c : Component) (cs : List Component) (s : Step) → InitIfStays cs s → InitIfStays (c ∷ cs) (step_after c s)
+  after_init : (c : Component) (cs : List Component) (s : Step) → InitIfStays cs s
+      → InitIfStays (c ∷ cs) (step_after c s)
   after_init c cs stays h = bool_cases (init_at k.offset c) (λ e. rw e) (λ e. rw e h)
   after_init c cs lacks h = tt
   after_init c cs (changes t os) h = tt
 
   -- A choice is a change, or what is done instead.
-  choosing_init : (cs : List Component) (s : ℕ) (made : List Object → List Component) (other : Step) → InitIfStays cs other
+  choosing_init : (cs : List Component) (s : ℕ) (made : List Object → List Component) (other : Step)
+      → InitIfStays cs other
       → InitIfStays cs (choosing k s made other)
   unfolding choosing
   choosing_init cs s made other h =
@@ -64,7 +68,8 @@ module _ (k : Call) where
     low_init u c x (n ∷ cs) =
         cond_elim (InitIfStays u) n.init (λ e. tt) (λ e. choosing_init u n.stripe_count _ lacks tt)
 
-    extension_init : (u : List Component) (c x : Component) (cs : List Component) → InitIfStays u (extension_step k new c x cs)
+    extension_init : (u : List Component) (c x : Component) (cs : List Component)
+        → InitIfStays u (extension_step k new c x cs)
     unfolding extension_step
     extension_init u c x cs =
         cond_elim (InitIfStays u) c.init
@@ -101,7 +106,8 @@ module _ (l : Layout) (k : Call) where
   refused_home : (n : ℕ) (e : Effect) → refuses n ≡ gives e → e.changed ≡ false → e.home ≡ true
   refused_home n e q c = absurd (gives_or_refuses e n (sym q))
 
-  -- In a valid layout that covers the offset, a step that changes nothing is made where the offset lies in an init component.
+  -- In a valid layout that covers the offset, a step that changes nothing is made where the offset lies in an init
+  -- component.
   stay_init : valid l ≡ true → leb (last_end (view l)) k.offset ≡ false → InitIfStays k (view l) (step_of l k)
   stay_init v below =
       let ks = (valid_facts l v).keeps in
@@ -116,7 +122,8 @@ module _ (l : Layout) (k : Call) where
   -- What a step gives.
   outcome_home : (s : Step) → InitIfStays k (view l) s → HomeIfSame (outcome_of l k s)
   unfolding outcome_of
-  outcome_home stays h e q c = sym (ap (λ (d : Effect). d.home) (answer_gives 0 _ e q).1) ∙ has_home_lem k.offset (view l) ∙ h
+  outcome_home stays h e q c = sym (ap (λ (d : Effect). d.home) (answer_gives 0 _ e q).1)
+      ∙ has_home_lem k.offset (view l) ∙ h
   outcome_home lacks h e q c = refused_home 16 e q c
   outcome_home (changes cs os) h e q c =
       bool_cases (ltb 16 (length cs)) (λ t. refused_home 17 e (rw t at q) c)

@@ -18,7 +18,8 @@ use Rattle.free_table.specs.Table.{usable, any_low}
 use Rattle.free_table.specs.Choosing.{chosen}
 use Rattle.free_table.proofs.ChoosingLaws.{chosen_none, chosen_same}
 use Rattle.growth_rules.specs.Parts.{fresh_id}
-use Rattle.growth_rules.specs.Steps.{Call, Step, stays, lacks, changes, step_after, choosing, held_step, spill_step, low_step}
+use Rattle.growth_rules.specs.Steps.{Call, Step, stays, lacks, changes, step_after, choosing, held_step, spill_step}
+use Rattle.growth_rules.specs.Steps.{low_step}
 use Rattle.growth_rules.specs.Steps.{extension_step, step_on}
 use Rattle.growth_rules.specs.Growing.{Effect, Outcome, highest_generation, step_of, grow_of}
 use Rattle.growth_rules.specs.CallFacts.{Leaves, Changes}
@@ -130,7 +131,8 @@ module _ (k : Call) where
   after_choice c (changes cs os) h = h
 
   -- If object records are chosen, or something is done instead.
-  choosing_choice : (s : ℕ) (made : List Object → List Component) (other : Step) → Choice other → Choice (choosing k s made other)
+  choosing_choice : (s : ℕ) (made : List Object → List Component) (other : Step) → Choice other
+      → Choice (choosing k s made other)
   unfolding choosing
   choosing_choice s made other h =
       cond_elim Choice (eqb (length (chosen (usable k.mark) s k.table)) s)
@@ -167,8 +169,8 @@ module _ (k : Call) where
         (λ e. cond_elim Choice (x.extension && holds x k.offset) (λ q. extension_choice c x cs)
         (λ q. after_choice c (step_on k new (x ∷ cs)) (step_choice (x ∷ cs))))
 
--- "Choosing S targets takes the S usable ones with the lowest targets, in that order, each with its next number": a step takes
--- its object records so, with S as many as they are.
+-- "Choosing S targets takes the S usable ones with the lowest targets, in that order, each with its next number": a
+-- step takes its object records so, with S as many as they are.
 pub step_chosen : (l : Layout) (k : Call) (cs : List Component) (os : List Object) → step_of l k ≡ changes cs os
     → os ≡ chosen (usable k.mark) (length os) k.table
 step_chosen l k cs os e =

@@ -1,5 +1,5 @@
--- Demand 3: over every list of calls of growth from a valid layout, homes stay, no two bytes ever share one, and the same bytes
--- stay covered. "It is a single claim about the whole list and not one for each call."
+-- Demand 3: over every list of calls of growth from a valid layout, homes stay, no two bytes ever share one, and the
+-- same bytes stay covered. "It is a single claim about the whole list and not one for each call."
 use Rattle.std.specs.Prelude.{ℕ, ◌≤◌, ◌<◌, ◌≡◌, List, true, leb, length, get_or}
 use Rattle.std.proofs.Math.Option.{some}
 use Rattle.std.proofs.Common.{arith, leb-true, leb-false}
@@ -23,8 +23,10 @@ module _ (l : Layout) (ks : List Call) (v : valid l ≡ true) where
 
   -- Two bytes with the same home at one moment are the same.
   one_byte : (i : ℕ) → i < length (moments l ks) → (b b' : ℕ) (h : Home)
-      → home_of b (view (get_or (moments l ks) i l)) ≡ some h → home_of b' (view (get_or (moments l ks) i l)) ≡ some h → b ≡ b'
-  one_byte i k b b' h e e' = home_once (valid_facts (get_or (moments l ks) i l) (moment_valid l ks v i k)).keeps b b' h e e'
+      → home_of b (view (get_or (moments l ks) i l)) ≡ some h → home_of b' (view (get_or (moments l ks) i l)) ≡ some h
+      → b ≡ b'
+  one_byte i k b b' h e e' = home_once (valid_facts (get_or (moments l ks) i l) (moment_valid l ks v i k)).keeps b b' h
+      e e'
 
 -- Demand 3: over every list of calls, from a valid layout.
 pub demand3 : (l : Layout) (ks : List Call) → valid l ≡ true → Demand3 l (moments l ks)

@@ -1,5 +1,5 @@
--- What holds from one moment of a list of calls to each later one: the layout stays valid, every reading that does not look at
--- the extent stays, and the last end stays.
+-- What holds from one moment of a list of calls to each later one: the layout stays valid, every reading that does not
+-- look at the extent stays, and the last end stays.
 use Rattle.std.specs.Prelude.{ℕ, zero, suc, ◌+◌, ◌≤◌, ◌<◌, ◌≡◌, refl, List, [], ◌∷◌, true, false, ltb, length, get_or}
 use Rattle.std.proofs.Common.{sym, ap, ◌∙◌, arith}
 use Rattle.std.proofs.Math.Option.{some}
@@ -35,10 +35,12 @@ home_no_extent begin end c b = refl
 pub piece_no_extent : NoExtent byte_piece
 piece_no_extent begin end c b = refl
 
--- The layout l' comes of l by calls: it is valid, every reading that does not look at the extent stays, and the last end stays.
+-- The layout l' comes of l by calls: it is valid, every reading that does not look at the extent stays, and the last
+-- end stays.
 record Follows (l l' : Layout) : Type 1 where
   sound : valid l' ≡ true
-  readings : {A : Type 0} (read : Component → ℕ → A) → NoExtent read → (b : ℕ) (a : A) → reading_of read b (view l) ≡ some a
+  readings : {A : Type 0} (read : Component → ℕ → A) → NoExtent read → (b : ℕ) (a : A)
+      → reading_of read b (view l) ≡ some a
       → reading_of read b (view l') ≡ some a
   ends : last_end (view l') ≡ last_end (view l)
 
@@ -102,7 +104,8 @@ module _ (l : Layout) (ks : List Call) (v : valid l ≡ true) where
   moment_valid j h = (start_follows l l ks v j h).sound
 
   -- What a reading that does not look at the extent gives at a moment, it gives at every later one.
-  pub reading_kept : {A : Type 0} (read : Component → ℕ → A) → NoExtent read → (i j : ℕ) → i ≤ j → j < length (moments l ks)
+  pub reading_kept : {A : Type 0} (read : Component → ℕ → A) → NoExtent read → (i j : ℕ) → i ≤ j
+      → j < length (moments l ks)
       → (b : ℕ) (a : A) → reading_of read b (view (get_or (moments l ks) i l)) ≡ some a
       → reading_of read b (view (get_or (moments l ks) j l)) ≡ some a
   reading_kept read n i j le h b a e = (moment_follows l l ks v i j le h).readings read n b a e

@@ -24,7 +24,8 @@ after_extension : (x n : Component) → (n.extension ≡ true → not x.extensio
 after_extension x n may e = bool_cases n.extension (λ q. clash e (not-true x.extension (may q))) (λ q. q)
 
 -- A grant to a component, renewed or not: c' is c up to where it ends.
-pub granting_replaced : {at : ℕ} {may : Bool} {os : List Object} (c c' x : Component) (t : List Component) → Fields (c ∷ x ∷ t)
+pub granting_replaced : {at : ℕ} {may : Bool} {os : List Object} (c c' x : Component) (t : List Component)
+    → Fields (c ∷ x ∷ t)
     → Linked false at may (c ∷ x ∷ t) → IsExtension x → c'.begin ≡ c.begin
     → (c.begin < reach x.begin x → Renewed c (with_extent c'.begin (reach x.begin x) c') os)
     → Replaced at at may (c ∷ x ∷ t) (granting c' x t) os []
@@ -40,7 +41,8 @@ granting_replaced c c' x t f k is begin renewed =
     (replaced_leaving c.end r (not c.extension) x t f.2 k.3 is (omega arith))
 
 -- The component after an extension that goes, made init, and what follows it.
-pub following_replaced : {at : ℕ} {may : Bool} (x n : Component) (t : List Component) (os : List Object) → Fields (x ∷ n ∷ t)
+pub following_replaced : {at : ℕ} {may : Bool} (x n : Component) (t : List Component) (os : List Object)
+    → Fields (x ∷ n ∷ t)
     → Linked false at may (x ∷ n ∷ t) → IsExtension x → n.init ≡ false → Chosen n.stripe_count os
     → Replaced at at may (x ∷ n ∷ t) (following x.begin (made_init os n) t) os []
 unfolding following

@@ -18,10 +18,12 @@ use Rattle.free_table.specs.Table.{usable, table_ok, any_low}
 use Rattle.free_table.specs.Choosing.{chosen}
 use Rattle.free_table.proofs.ChoosingLaws.{table_facts, chosen_targets, chosen_once}
 use Rattle.growth_rules.specs.Parts.{made_init, repeat_of, reach, leaving, granting}
-use Rattle.growth_rules.specs.Steps.{Call, Step, stays, lacks, changes, step_after, choosing, held_step, spill_step, low_step}
+use Rattle.growth_rules.specs.Steps.{Call, Step, stays, lacks, changes, step_after, choosing, held_step, spill_step}
+use Rattle.growth_rules.specs.Steps.{low_step}
 use Rattle.growth_rules.specs.Steps.{extension_step, step_on}
 use Rattle.growth_rules.specs.Replacing.{Replaced, Chosen, Changed, StepKeeps}
-use Rattle.growth_rules.specs.ReplacingLaws.{replaced_same, replaced_new, replaced_after, replaced_gone, replaced_renewed, replaced_added}
+use Rattle.growth_rules.specs.ReplacingLaws.{replaced_same, replaced_new, replaced_after, replaced_gone}
+use Rattle.growth_rules.specs.ReplacingLaws.{replaced_renewed, replaced_added}
 use Rattle.growth_rules.specs.ReplacingLaws.{replaced_leaving}
 use Rattle.growth_rules.specs.RenewingLaws.{init_renewed, bare_renewed, repeat_init, repeat_records}
 use Rattle.growth_rules.proofs.PartReplacing.{kind_bare, granting_replaced, following_replaced, following_some}
@@ -52,7 +54,8 @@ module _ (k : Call) (new : ℕ) (table : table_ok k.table ≡ true) (one : 1 ≤
     unfolding choosing
     choosing_keeps t s made other keeps otherwise =
         let os = chosen (usable k.mark) s k.table in
-        cond_elim (StepKeeps new at may t) (eqb (length os) s) (λ e. keeps os (chosen_facts s (eqb-true (length os) s e)))
+        cond_elim (StepKeeps new at may t) (eqb (length os) s)
+        (λ e. keeps os (chosen_facts s (eqb-true (length os) s e)))
         (λ e. otherwise)
 
     -- The component c holds the offset.
@@ -112,7 +115,8 @@ module _ (k : Call) (new : ℕ) (table : table_ok k.table ≡ true) (one : 1 ≤
           after_init (n ∷ t) _ [] f l i (omega arith) (λ o. omega arith)
           (replaced_new new
           (replaced_gone x is
-          (replaced_renewed n _ t f.2.2 (init_renewed n _ _ kind (omega arith)) (omega arith) (λ e. (omega arith, omega arith))
+          (replaced_renewed n _ t f.2.2 (init_renewed n _ _ kind (omega arith)) (omega arith)
+          (λ e. (omega arith, omega arith))
           (replaced_same n.end (not n.extension) t f.2.2.2 l.3.3.3)))))
           (λ q. choosing_keeps (c ∷ x ∷ n ∷ t) n.stripe_count _ lacks
           (λ os ch. after_init (n ∷ t) _ os f l i (following_some x.begin (made_init os n) t) ch.once
@@ -138,7 +142,8 @@ module _ (k : Call) (new : ℕ) (table : table_ok k.table ≡ true) (one : 1 ≤
           → StepKeeps new at may (c ∷ x ∷ t) (low_step k new c x t)
       unfolding low_step
       low_keeps [] f l i =
-          choosing_keeps (c ∷ x ∷ []) c.stripe_count _ (changes (granting c x []) []) (λ os ch. repeat_keeps os f l i ch)
+          choosing_keeps (c ∷ x ∷ []) c.stripe_count _ (changes (granting c x []) [])
+          (λ os ch. repeat_keeps os f l i ch)
           (granting_keeps [] f l i)
       low_keeps (n ∷ t) f l i = spill_keeps n t f l i
 
@@ -148,7 +153,8 @@ module _ (k : Call) (new : ℕ) (table : table_ok k.table ≡ true) (one : 1 ≤
       unfolding extension_step granting
       extension_keeps t f l =
           cond_elim (StepKeeps new at may (c ∷ x ∷ t)) c.init
-          (λ i. cond_elim (StepKeeps new at may (c ∷ x ∷ t)) (any_low k.mark k.table (records_of c)) (λ e. low_keeps t f l i)
+          (λ i. cond_elim (StepKeeps new at may (c ∷ x ∷ t)) (any_low k.mark k.table (records_of c))
+          (λ e. low_keeps t f l i)
           (λ e. granting_keeps t f l i))
           (λ i. choosing_keeps (c ∷ x ∷ t) c.stripe_count _ lacks
           (λ os ch. let bare = kind_bare f.1 i (not-true c.extension (l.3.1 is.extension)) in

@@ -44,7 +44,8 @@ module _ (l : Layout) (k : Call) (v : valid l ≡ true) where
       rw e at keeps
 
   -- So the components after it keep the component rules, if 18 does not apply.
-  pub changed_keeps : (cs : List Component) (os : List Object) → Changed (fresh_id (ids_of (view l))) 0 false (view l) cs os
+  pub changed_keeps : (cs : List Component) (os : List Object)
+      → Changed (fresh_id (ids_of (view l))) 0 false (view l) cs os
       → meets os (records_in (view l)) ≡ false → Keeps false cs
   changed_keeps cs os c apart =
       let before = (valid_facts l v).keeps in
@@ -54,7 +55,8 @@ module _ (l : Layout) (k : Call) (v : valid l ≡ true) where
         linked = c.replaced.linked;
         ids = λ i.
             bool_cases (eqb i new)
-            (λ e. let none : count eqb i (ids_of (view l)) ≡ 0 = rw (eqb-true i new e) (fresh_id_lem (ids_of (view l))).unused in
+            (λ e. let none : count eqb i (ids_of (view l)) ≡ 0 =
+            rw (eqb-true i new e) (fresh_id_lem (ids_of (view l))).unused in
             let one : bit (eqb i new) ≡ 1 = rw e in omega (arith, c.replaced.ids i))
             (λ e. let none : bit (eqb i new) ≡ 0 = rw e in omega (arith, c.replaced.ids i, before.ids i));
         objects = λ o.

@@ -29,7 +29,8 @@ module _ {A : Type 0} (same : A → A → Bool) where
 
   -- If nothing counts twice, the tests pass.
   module _ (same_refl : (x : A) → same x x ≡ true) where
-    along_count : (seen l : List A) → ((x : A) → count same x (seen ++ l) ≤ 1) → every (along (unseen same) seen_with seen l) ≡ true
+    along_count : (seen l : List A) → ((x : A) → count same x (seen ++ l) ≤ 1)
+        → every (along (unseen same) seen_with seen l) ≡ true
     along_count seen [] h = refl
     along_count seen (a ∷ l) h = bool_cases (elem same a seen)
         (λ e. let r : bit (same a a) ≡ 1 = rw (same_refl a) in

@@ -1,12 +1,15 @@
--- The position of the first test that fails, as an `Option`, where the tests of the first k elements are known to pass and
--- only the rest is asked.
-use Rattle.std.specs.Prelude.{ℕ, suc, ◌+◌, ◌-◌, ◌≤◌, ◌<◌, ◌≡◌, refl, List, [], ◌∷◌, Option, Some, None, is_none, is_some, Bool, true, false, not, ltb, eqb, length, get_or, take, drop}
+-- The position of the first test that fails, as an `Option`, where the tests of the first k elements are known to pass
+-- and only the rest is asked.
+use Rattle.std.specs.Prelude.{ℕ, suc, ◌+◌, ◌-◌, ◌≤◌, ◌<◌, ◌≡◌, refl, List, [], ◌∷◌, Option, Some, None, is_none}
+use Rattle.std.specs.Prelude.{is_some, Bool, true, false, not, ltb, eqb, length, get_or, take, drop}
 use Rattle.std.specs.List.{zip, list_any}
 use Rattle.std.specs.Option.{option_map}
-use Rattle.std.proofs.Common.{add-one, sym, ap, ◌∙◌, arith, length-drop, drop-cons, drop_of_length-le, get_or-drop, ltb-true, ltb-false, lt-ltb, le-ltb, eq-eqb, ne_eqb}
+use Rattle.std.proofs.Common.{add-one, sym, ap, ◌∙◌, arith, length-drop, drop-cons, drop_of_length-le, get_or-drop}
+use Rattle.std.proofs.Common.{ltb-true, ltb-false, lt-ltb, le-ltb, eq-eqb, ne_eqb}
 use Rattle.std.proofs.lemmas.Bool.{eqb-true, eqb-false}
 use Rattle.lists.specs.Bools.{bool_cases, clash}
-use Rattle.lists.specs.Tests.{every, first_failed, along, after, ahead, each, first_that, found, failed_skip, none_failed, every_failed, length_along, drop_along, length_ahead, drop_ahead}
+use Rattle.lists.specs.Tests.{every, first_failed, along, after, ahead, each, first_that, found, failed_skip}
+use Rattle.lists.specs.Tests.{none_failed, every_failed, length_along, drop_along, length_ahead, drop_ahead}
 use Rattle.lists.specs.Counting.{elem, unseen, seen_with, fresh, after_seen}
 use Rattle.lists.specs.Slices.{part_rest, take_next}
 
@@ -33,13 +36,15 @@ found_none k i n m e s =
     (λ q. let h : m ≤ i = ltb-false i m q in rw (found_past (k + i) n (omega arith)))
 
 -- No position is found exactly if every test passes.
-pub none_found : (ts : List Bool) (r : Option ℕ) (n : ℕ) → r ≡ found (first_failed ts) n → length ts ≡ n → is_none r ≡ every ts
+pub none_found : (ts : List Bool) (r : Option ℕ) (n : ℕ) → r ≡ found (first_failed ts) n → length ts ≡ n
+    → is_none r ≡ every ts
 none_found ts r n e len =
     bool_cases (every ts)
     (λ q. let w : n ≤ first_failed ts = omega (arith, every_failed ts q) in rw (e, found_past (first_failed ts) n w, q))
     (λ q. bool_cases (ltb (first_failed ts) n)
     (λ p. rw (e, p, q))
-    (λ p. let w : length ts ≤ first_failed ts = omega (arith, ltb-false (first_failed ts) n p) in clash (none_failed ts w) q))
+    (λ p. let w : length ts ≤ first_failed ts = omega (arith, ltb-false (first_failed ts) n p) in
+    clash (none_failed ts w) q))
 
 module _ (ts : List Bool) (k n : ℕ) (h : k ≤ n) (len : length ts ≡ n) (e : every (take k ts) ≡ true) where
   pub rest_some : (i : ℕ) → Some i ≡ found (first_failed (drop k ts)) (n - k) → Some (k + i) ≡ found (first_failed ts) n
@@ -67,12 +72,14 @@ module _ {A : Type 0} (ok : A → Bool) where
         rest_none (each ok l) k (length l) h (length_ahead _ l) e
         (rw (drop_ahead, failed_that (drop k l), ← length-drop k l) s)
 
--- A loop with a state over the rest of a list, from its element k on: i elements of the rest are passed, and the state is s'.
+-- A loop with a state over the rest of a list, from its element k on: i elements of the rest are passed, and the state
+-- is s'.
 module _ {S A : Type 0} (ok : S → A → Bool) (next : S → A → S) (s : S) (l : List A) (k i : ℕ) (s' : S) where
   abbrev pub Passes : Type 0
   Passes = first_failed (along ok next s l) ≡ k + i + first_failed (along ok next s' (drop (k + i) l))
 
-  pub passes_none : Passes → length (take (length l - k) (drop k l)) ≤ i → k ≤ length l → None ≡ found (first_failed (along ok next s l)) (length l)
+  pub passes_none : Passes → length (take (length l - k) (drop k l)) ≤ i → k ≤ length l
+      → None ≡ found (first_failed (along ok next s l)) (length l)
   passes_none p h w =
       let n : length l ≤ k + i = omega (arith, rw part_rest at h, length-drop k l) in
       rw (p, drop_of_length-le l {i = k + i} n) (sym (found_past (k + i + 0) (length l) (omega arith)))
@@ -94,11 +101,13 @@ module _ {S A : Type 0} (ok : S → A → Bool) (next : S → A → S) (s : S) (
         rw w (sym (found_in (k + i) (length l) within))
 
     pub passes_more : Passes → ok s' (get_or (take (length l - k) (drop k l)) i d) ≡ true
-        → first_failed (along ok next s l) ≡ k + (i + 1) + first_failed (along ok next (next s' (get_or (take (length l - k) (drop k l)) i d)) (drop (k + (i + 1)) l))
+        → first_failed (along ok next s l) ≡ k + (i + 1) + first_failed
+        (along ok next (next s' (get_or (take (length l - k) (drop k l)) i d)) (drop (k + (i + 1)) l))
     passes_more p e = p ∙ rw (split, e) (omega arith)
 
 -- No element of the rest is passed yet.
-pub passes_start : {S A : Type 0} (ok : S → A → Bool) (next : S → A → S) (s : S) (l : List A) (k : ℕ) (s' : S) → k ≤ length l
+pub passes_start : {S A : Type 0} (ok : S → A → Bool) (next : S → A → S) (s : S) (l : List A) (k : ℕ) (s' : S)
+    → k ≤ length l
     → every (take k (along ok next s l)) ≡ true → s' ≡ after next s (take k l) → Passes ok next s l k 0 s'
 passes_start ok next s l k s' h e w =
     let z : k + 0 ≡ k = omega arith in
@@ -114,7 +123,8 @@ found_suc i n =
 found_zero : (n : ℕ) → found 0 (suc n) ≡ Some 0
 found_zero n = found_in 0 (suc n) (omega arith)
 
--- One test for each element and the one that follows it, and none for the last: the first that fails, looked for in the pairs.
+-- One test for each element and the one that follows it, and none for the last: the first that fails, looked for in the
+-- pairs.
 module _ {A : Type 0} (ok : A → List A → Bool) (joined : A → A → Bool)
     (none : (a : A) → ok a [] ≡ true) (one : (a b : A) (l : List A) → ok a (b ∷ l) ≡ joined a b) where
   pub found_pair : (l : List A)
@@ -139,13 +149,15 @@ module _ {S A : Type 0} (ok : S → A → Bool) (next : S → A → S) (s : S) (
   at_end p h = rw (p, drop_of_length-le l {i = j} h) (sym (found_past (j + 0) (length l) (omega arith)))
 
   module _ (d : A) (h : j < length l) where
-    pub at_fault : PassesTo → ok s' (get_or l j d) ≡ false → Some j ≡ found (first_failed (along ok next s l)) (length l)
+    pub at_fault : PassesTo → ok s' (get_or l j d) ≡ false
+        → Some j ≡ found (first_failed (along ok next s l)) (length l)
     at_fault p e =
         let w : first_failed (along ok next s l) ≡ j = p ∙ rw (drop-cons l j d h, e) (omega arith) in
         rw w (sym (found_in j (length l) h))
 
     pub at_pass : PassesTo → ok s' (get_or l j d) ≡ true
-        → first_failed (along ok next s l) ≡ j + 1 + first_failed (along ok next (next s' (get_or l j d)) (drop (j + 1) l))
+        → first_failed (along ok next s l) ≡ j + 1 + first_failed
+        (along ok next (next s' (get_or l j d)) (drop (j + 1) l))
     at_pass p e = p ∙ rw (drop-cons l j d h, e, add-one) (omega arith)
 
 -- The scan for the first element that equals one before it.
@@ -160,11 +172,13 @@ module _ {A : Type 0} (same : A → A → Bool) (l : List A) (j : ℕ) where
   fresh_end p h = at_end (unseen same) seen_with [] l j (take j l) p h
 
   module _ (d : A) (h : j < length l) where
-    pub fresh_fault : Fresh → elem same (get_or l j d) (take j l) ≡ true → Some j ≡ found (first_failed (fresh same l)) (length l)
+    pub fresh_fault : Fresh → elem same (get_or l j d) (take j l) ≡ true
+        → Some j ≡ found (first_failed (fresh same l)) (length l)
     fresh_fault p e = at_fault (unseen same) seen_with [] l j (take j l) d h p (rw e)
 
     pub fresh_pass : Fresh → elem same (get_or l j d) (take j l) ≡ false
-        → first_failed (fresh same l) ≡ j + 1 + first_failed (along (unseen same) seen_with (take (j + 1) l) (drop (j + 1) l))
+        → first_failed (fresh same l) ≡ j + 1 + first_failed
+        (along (unseen same) seen_with (take (j + 1) l) (drop (j + 1) l))
     fresh_pass p e = rw (take_next l j d h) (at_pass (unseen same) seen_with [] l j (take j l) d h p (rw e))
 
 -- What `contains` answers.
@@ -184,5 +198,6 @@ is_some_not None = refl
 is_some_not (Some a) = refl
 
 -- A position is found exactly if a test fails.
-pub some_found : (ts : List Bool) (r : Option ℕ) (n : ℕ) → r ≡ found (first_failed ts) n → length ts ≡ n → is_some r ≡ not (every ts)
+pub some_found : (ts : List Bool) (r : Option ℕ) (n : ℕ) → r ≡ found (first_failed ts) n → length ts ≡ n
+    → is_some r ≡ not (every ts)
 some_found ts r n e len = is_some_not r ∙ ap not (none_found ts r n e len)

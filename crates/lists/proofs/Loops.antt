@@ -1,23 +1,26 @@
--- A loop that looks for the first failed test of a rule over the first n elements of an array: what the position is at the
--- loop's start, when a test passes, when one fails, and at the end.
+-- A loop that looks for the first failed test of a rule over the first n elements of an array: what the position is at
+-- the loop's start, when a test passes, when one fails, and at the end.
 use Rattle.std.specs.Prelude.{ℕ, ◌+◌, ◌-◌, ◌≤◌, ◌<◌, ◌≡◌, List, [], Bool, true, false, length, get_or, take}
 use Rattle.std.proofs.Common.{ap, ◌∙◌, arith, take-take, length-take-le}
 use Rattle.std.proofs.Math.Seq.{slice}
-use Rattle.lists.specs.Tests.{every, first_failed, along, after, after_append, ahead, failed_skip, length_along, length_ahead, drop_along, drop_ahead}
+use Rattle.lists.specs.Tests.{every, first_failed, along, after, after_append, ahead, failed_skip, length_along}
+use Rattle.lists.specs.Tests.{length_ahead, drop_along, drop_ahead}
 use Rattle.lists.specs.Counting.{elem, unseen, seen_with, fresh, after_seen}
 use Rattle.lists.specs.Slices.{slice_next, slice_done, take_next}
 
 module _ {A : Type 0} (l : List A) (n i : ℕ) where
   module _ {S : Type 0} (ok : S → A → Bool) (next : S → A → S) (s : S) where
     pub along_start : i ≤ n → n ≤ length l → every (take i (along ok next s (take n l))) ≡ true
-        → first_failed (along ok next s (take n l)) ≡ i + first_failed (along ok next (after next s (take i l)) (slice i n l))
+        → first_failed (along ok next s (take n l)) ≡ i + first_failed
+        (along ok next (after next s (take i l)) (slice i n l))
     along_start h k e =
         let w : i ≤ length (along ok next s (take n l)) = rw (length_along, length-take-le n l k) h in
         failed_skip i (along ok next s (take n l)) w e ∙ rw (drop_along, take-take i n l h)
 
     module _ (d : A) (h : i < n) (k : i < length l) where
       pub along_pass : ok s (get_or l i d) ≡ true
-          → i + first_failed (along ok next s (slice i n l)) ≡ (i + 1) + first_failed (along ok next (next s (get_or l i d)) (slice (i + 1) n l))
+          → i + first_failed (along ok next s (slice i n l))
+          ≡ (i + 1) + first_failed (along ok next (next s (get_or l i d)) (slice (i + 1) n l))
       along_pass e = rw (slice_next l n i d h k, e) (omega arith)
 
       pub along_fail : ok s (get_or l i d) ≡ false → i + first_failed (along ok next s (slice i n l)) ≡ i

@@ -1,5 +1,6 @@
 -- The laws of the way back, and that lookup and the way back undo each other.
-use Rattle.std.specs.Prelude.{ℕ, zero, suc, ◌^◌, ◌≤◌, ◌<◌, ◌≡◌, refl, List, [], ◌∷◌, Bool, true, ◌&&◌, ◌||◌, ltb, leb, length}
+use Rattle.std.specs.Prelude.{ℕ, zero, suc, ◌^◌, ◌≤◌, ◌<◌, ◌≡◌, refl, List, [], ◌∷◌, Bool, true, ◌&&◌, ◌||◌, ltb, leb}
+use Rattle.std.specs.Prelude.{length}
 use Rattle.std.proofs.Common.{sym, ◌∙◌, arith}
 use Rattle.std.proofs.Math.Path.{ap}
 use Rattle.std.proofs.lemmas.Bool.{false≢true}
@@ -51,7 +52,8 @@ elem_records o (c ∷ cs) =
 
 -- The position of an object's component is below the number of components exactly if an object record of the layout
 -- names the object.
-pub owner_elem : (o : Object) (cs : List Component) → elem same_object o (records_in cs) ≡ ltb (owner_of o cs) (length cs)
+pub owner_elem : (o : Object) (cs : List Component) → elem same_object o (records_in cs)
+    ≡ ltb (owner_of o cs) (length cs)
 owner_elem o cs = elem_records o cs ∙ first_any (has o) cs
 
 -- The component at the position then has an object record that names it.
@@ -122,8 +124,8 @@ module _ (c : Component) (k : IsInit c) where
   unfolding home_in file_byte_in
   home_back o p h =
       let below : position_in o (records_of c) < c.stripe_count = omega (arith, h, k.records) in
-      let size = k.striped.size.nonzero in
-      let r = striping.home_of_back c.stripe_size c.stripe_count (position_in o (records_of c)) p size below in
+      let r = striping.home_of_back c.stripe_size c.stripe_count (position_in o (records_of c)) p k.striped.size.nonzero
+      below in
       rw (r.0, r.1, position_names o (records_of c) h)
 
 -- A file byte that is not hidden lies in the extent.
@@ -204,7 +206,8 @@ module _ {more : Bool} {cs : List Component} (k : Keeps more cs) where
       rw (← byte) (here ∙ ap {B = Option Home} some home)
 
 -- Back from what a lookup gives is the byte that was looked up.
-pub looked_up_back : (l : Layout) (b : ℕ) (h : Home) → b < 2 ^ 64 → lookup_of b l ≡ gives (some h) → back_of h l ≡ gives b
+pub looked_up_back : (l : Layout) (b : ℕ) (h : Home) → b < 2 ^ 64 → lookup_of b l ≡ gives (some h)
+    → back_of h l ≡ gives b
 unfolding lookup_of lookup_in back_of back_in
 looked_up_back l b h s e =
     let g = checked_gives l (lookup_refusal b (view l)) (home_of b (view l)) (some h) e in

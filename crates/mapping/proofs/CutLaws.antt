@@ -1,7 +1,8 @@
 -- The pieces of a request in components that are end to end: they tile the request, and each is a piece of one of
 -- the components. So no cut place lies strictly inside a piece, a piece ends at a cut place or where the request ends,
 -- and its bytes have the homes that it tells.
-use Rattle.std.specs.Prelude.{ℕ, zero, suc, ◌+◌, ◌-◌, ◌*◌, ◌/◌, ◌%◌, ◌≤◌, ◌<◌, ◌≡◌, refl, Bool, true, false, not, ◌⊎◌, eqb, length}
+use Rattle.std.specs.Prelude.{ℕ, zero, suc, ◌+◌, ◌-◌, ◌*◌, ◌/◌, ◌%◌, ◌≤◌, ◌<◌, ◌≡◌, refl, Bool, true, false, not, ◌⊎◌}
+use Rattle.std.specs.Prelude.{eqb, length}
 use Rattle.std.proofs.Common.{ap, ◌∙◌, inl, inr, arith, div-add-mod', lt-ltb, le-ltb, le-leb, eq-eqb, ne_eqb}
 use mathlib.Core.List.{List, [], ◌∷◌}
 use Rattle.std.proofs.Math.Bool.{and-false, or-true}
@@ -111,9 +112,13 @@ module _ (b : ℕ) (c : Component) (p : Piece) (k : PieceOf b c p) where
     unfolding home_in
     piece_home =
         let z = c.stripe_size in
-        let s = c.stripe_count in
         let u : p.offset % z + d < z = omega (arith, k.unit) in
-        rw (stripe_within z s p.offset d u, object_byte_within z s p.offset d u, k.stripe, k.byte)
+        rw (
+          stripe_within z c.stripe_count p.offset d u,
+          object_byte_within z c.stripe_count p.offset d u,
+          k.stripe,
+          k.byte,
+        )
 
 -- The object record at a place below the end.
 record_at_lem : (os : List Object) (i : ℕ) → i < length os → get_elem? os i ≡ some (get_or os i no_object)

@@ -1,6 +1,7 @@
 -- The pieces in one component: they tile the part of the request that lies in it, each of them lies in one unit, and
 -- each ends where the component cuts the file or where the request ends.
-use Rattle.std.specs.Prelude.{ℕ, zero, suc, ◌+◌, ◌-◌, ◌%◌, ◌≤◌, ◌<◌, min, max, ◌≡◌, refl, List, [], ◌∷◌, true, false, cond, ltb}
+use Rattle.std.specs.Prelude.{ℕ, zero, suc, ◌+◌, ◌-◌, ◌%◌, ◌≤◌, ◌<◌, min, max, ◌≡◌, refl, List, [], ◌∷◌, true, false}
+use Rattle.std.specs.Prelude.{cond, ltb}
 use Rattle.std.proofs.Common.{ap, ◌∙◌, arith, mod-lt, ltb-true, ltb-false, lt-ltb, le-leb, eq-eqb}
 use Rattle.std.proofs.Math.Bool.{or-true, and-true}
 use Rattle.std.proofs.lemmas.Bool.{not-false}

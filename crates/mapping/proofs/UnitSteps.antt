@@ -98,7 +98,14 @@ module _ {z s a left stripe row byte : ℕ} (hz : 0 < z) (hs : 0 < s) (k : Known
     -- After the piece that ends with this unit.
     pub written_next : {a' w' : ℕ} {room' : List ℕ} → left < to - a → a' ≡ a + left → w' ≡ w + 5
         → length room' ≡ length room
-        → room' ≡ sets room w (piece_numbers record { offset = a; length = left; id = id; stripe = stripe; byte = byte })
+        → room' ≡ sets room w (piece_numbers record {
+          offset = a;
+          length = left;
+          id = id;
+          stripe = stripe;
+          byte =
+              byte;
+        })
         → Written id z s from to at lent a' w' room'
     written_next {room'} h p q l e =
         let n : unit_end z a < to = omega (arith, next_is) in
@@ -117,7 +124,14 @@ module _ {z s a left stripe row byte : ℕ} (hz : 0 < z) (hs : 0 < s) (k : Known
 
     -- After the last piece, which ends at `to`.
     pub written_last : {w' : ℕ} {room' : List ℕ} → to - a ≤ left → w' ≡ w + 5
-        → room' ≡ sets room w (piece_numbers record { offset = a; length = to - a; id = id; stripe = stripe; byte = byte })
+        → room' ≡ sets room w (piece_numbers record {
+          offset = a;
+          length = to - a;
+          id = id;
+          stripe = stripe;
+          byte =
+              byte;
+        })
         → (room' ≡ sets lent at (all_numbers (unit_pieces (unit_count z from to) id z s from to)))
         × (w' ≡ at + 5 * unit_count z from to)
     written_last h q e =

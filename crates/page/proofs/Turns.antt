@@ -1,4 +1,5 @@
--- The loops over the n object records from a place on: at turn i the record there is left, and those left at turn i + 1.
+-- The loops over the n object records from a place on: at turn i the record there is left, and those left at turn i +
+-- 1.
 use Prim.Native.Nat.{ℕ, zero, suc, ◌+◌, ◌*◌, ◌-◌, ◌≤◌, ◌<◌}
 use mathlib.Core.Path.{◌≡◌, refl, ◌∙◌}
 use mathlib.Core.List.{List, [], ◌∷◌}

@@ -13,7 +13,8 @@ use lib.Seq.{sets}
 use borrow.Author.Tests.{le-leb, lt-leb}
 use Rattle.lists.specs.Bools.{bool_cases, clash}
 use Rattle.lists.specs.Slices.{sets_next, take_sets}
-use Rattle.page.specs.Form.{objects_form, component_marks, records_at, component_end, component_form, components_form, places_from}
+use Rattle.page.specs.Form.{objects_form, component_marks, records_at, component_end, component_form, components_form}
+use Rattle.page.specs.Form.{places_from}
 use Rattle.page.specs.Form.{end_if, end_from, head_form, counted, form_by, page_form}
 use Rattle.page.specs.FormLaws.{length_places, few_components, page_by}
 use Rattle.page.specs.Walked.{Walks, Walked, walked_page}
@@ -70,9 +71,11 @@ module _ (s : List ℕ) (n i at : ℕ) where
 
   module _ (base m : ℕ) (places : List ℕ) where
     pub places_turn : i < n → sets places (m + i) (shifted base (places_from (n - i) s at))
-        ≡ sets (set places (m + i) (base + at)) (m + (i + 1)) (shifted base (places_from (n - (i + 1)) s (component_end s at)))
+        ≡ sets (set places (m + i) (base + at)) (m + (i + 1))
+        (shifted base (places_from (n - (i + 1)) s (component_end s at)))
     places_turn h =
-        rw (turn n i h) (sets_next places m i (base + at) (shifted base (places_from (n - (i + 1)) s (component_end s at))))
+        rw (turn n i h) (sets_next places m i (base + at)
+        (shifted base (places_from (n - (i + 1)) s (component_end s at))))
 
 -- If the page has not its form.
 pub walks_faulty : (limit : ℕ) (s : List ℕ) (base n : ℕ) (before after : List ℕ) → form_by limit s ≡ false
@@ -85,21 +88,22 @@ module _ (s : List ℕ) where
   unfolding page_form
   page_long h = rw (lt-leb (length s) 512 h)
 
-  module _ (h : length s ≤ 512) (before after : List ℕ) (end : Option ℕ) (w : Walks (length s) s 0 0 before after end) where
-    -- They are one exactly if the walk ends at their end.
-    pub page_told : option_eq eqb end (Some (length s)) ≡ page_form s
-    unfolding page_form
-    page_told =
-        bool_cases (form_by (length s) s)
-        (λ e. rw (w.0, le-leb (length s) 512 h, e))
-        (λ e. rw (w.0, le-leb (length s) 512 h, e))
+  module _ (h : length s ≤ 512) (before after : List ℕ) (end : Option ℕ) (w : Walks (length s) s 0 0 before after end)
+    where
+      -- They are one exactly if the walk ends at their end.
+      pub page_told : option_eq eqb end (Some (length s)) ≡ page_form s
+      unfolding page_form
+      page_told =
+          bool_cases (form_by (length s) s)
+          (λ e. rw (w.0, le-leb (length s) 512 h, e))
+          (λ e. rw (w.0, le-leb (length s) 512 h, e))
 
-    -- And then the first places are those of its components.
-    pub page_walked : length before ≡ 16 → page_form s ≡ true → Walked s after
-    page_walked room e =
-        let f = page_by s e in
-        let ps = places_from (counted s) s 16 in
-        let n = length_places (counted s) s 16 in
-        let few = few_components (length s) s f h in
-        let stored : after ≡ sets before 0 ps = simp (zero-add, map-id) at (w.3 f) in
-        walked_page s after e (rw stored (rw n at (take_sets before ps (omega arith))))
+      -- And then the first places are those of its components.
+      pub page_walked : length before ≡ 16 → page_form s ≡ true → Walked s after
+      page_walked room e =
+          let f = page_by s e in
+          let ps = places_from (counted s) s 16 in
+          let n = length_places (counted s) s 16 in
+          let few = few_components (length s) s f h in
+          let stored : after ≡ sets before 0 ps = simp (zero-add, map-id) at (w.3 f) in
+          walked_page s after e (rw stored (rw n at (take_sets before ps (omega arith))))

@@ -18,7 +18,8 @@ use Rattle.layout.specs.Facts.{Valid}
 use Rattle.page.specs.declared.Head.{Head}
 use Rattle.page.specs.Bytes.{components_bytes, head_bytes, page_bytes}
 use Rattle.page.specs.BytesLaws.{length_components_bytes, length_head}
-use Rattle.paging.specs.Paging.{in_page, sizes_of, from_page, first_page, later_pages, is_some, written_page, write_refusal}
+use Rattle.paging.specs.Paging.{in_page, sizes_of, from_page, first_page, later_pages, is_some, written_page}
+use Rattle.paging.specs.Paging.{write_refusal}
 use Rattle.paging.specs.PagingLaws.{total_sum, length_written, written_le, number_few}
 
 -- The head and after it the components: both calls have written the page.
@@ -38,7 +39,8 @@ pub record Page (l : Layout) (k : ℕ) (components later : List Component) : Typ
   pub others : later ≡ later_pages (from_page k (view l))
   pub some : is_some (from_page k (view l)) ≡ true
 
-pub page_at : (l : Layout) (k : ℕ) (all rest : List Component) (empty : Bool) (n : ℕ) (components later : List Component)
+pub page_at : (l : Layout) (k : ℕ) (all rest : List Component) (empty : Bool) (n : ℕ)
+    (components later : List Component)
     → all ≡ view l → rest ≡ from_page k all → empty ≡ (length rest == 0) → empty ≡ false → n ≡ in_page (sizes_of rest)
     → components ≡ take n rest → later ≡ drop n rest → Page l k components later
 page_at l k all rest empty n components later a r e f m p q =
@@ -85,6 +87,7 @@ module _ (l : Layout) (k : ℕ) (cs later : List Component) (p : Page l k cs lat
 
   -- Its head and its components are the page.
   pub page_is : (empty : Bool) → empty ≡ (length later == 0)
-      → page_bytes record { more = not empty; number = k; count = length cs; generation = l.generation } cs ≡ written_page l k
+      → page_bytes record { more = not empty; number = k; count = length cs; generation = l.generation } cs
+      ≡ written_page l k
   unfolding written_page
   page_is empty e = rw (some_left later empty e, p.first, p.others)

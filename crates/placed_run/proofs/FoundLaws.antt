@@ -31,7 +31,8 @@ by_refusal zero l h = absurd (h refl)
 by_refusal (suc n) l h = refl
 
 -- A reading in place that has come to its end.
-module _ (s : List ℕ) (p : Progress) (places : List ℕ) (k : InRange s p places) (n : ℕ) (e : placed_of n p places ≡ placed_run s) where
+module _ (s : List ℕ) (p : Progress) (places : List ℕ) (k : InRange s p places) (n : ℕ)
+    (e : placed_of n p places ≡ placed_run s) where
   abbrev cs : List Component
   cs = components_at s (take p.count places)
 
@@ -44,7 +45,8 @@ module _ (s : List ℕ) (p : Progress) (places : List ℕ) (k : InRange s p plac
   layout_is z = (run_alike s).layout z ∙ rw (← e)
 
   cs_length : length cs ≡ p.count
-  cs_length = length-map (take p.count places) (component_at s) ∙ length-take-le p.count places (omega (arith, k.few, k.room))
+  cs_length = length-map (take p.count places) (component_at s)
+      ∙ length-take-le p.count places (omega (arith, k.few, k.room))
 
   valid_is : (read_run host_cut s).refusal ≡ 0 → ValidAt s p.count places
   valid_is z =

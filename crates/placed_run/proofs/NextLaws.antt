@@ -1,6 +1,8 @@
 -- The next page: the number of its refusal test by test, and what is known once it is refused or taken.
-use Rattle.std.specs.Prelude.{ℕ, ◌+◌, ◌-◌, ◌≤◌, ◌<◌, min, ◌≡◌, List, ◌++◌, map, true, false, eqb, ltb, length, get_or, take, drop}
-use Rattle.std.proofs.Common.{sym, ap, ◌∙◌, append_assoc, arith, length-append, length-take-le, get_or-take, get_or-append-add, take_at, drop_at}
+use Rattle.std.specs.Prelude.{ℕ, ◌+◌, ◌-◌, ◌≤◌, ◌<◌, min, ◌≡◌, List, ◌++◌, map, true, false, eqb, ltb, length, get_or}
+use Rattle.std.specs.Prelude.{take, drop}
+use Rattle.std.proofs.Common.{sym, ap, ◌∙◌, append_assoc, arith, length-append, length-take-le, get_or-take}
+use Rattle.std.proofs.Common.{get_or-append-add, take_at, drop_at}
 use Rattle.std.proofs.Math.ListN.{length-drop, get_or-map}
 use Rattle.std.proofs.lemmas.List.{length-map}
 use Rattle.std.proofs.lemmas.List.Edits.{sets, sets-eq}
@@ -137,7 +139,8 @@ module _ (s : List ℕ) (p : Progress) (places : List ℕ) (k : InRange s p plac
           let lim = min 512 (length rest) in
           let w = place_within (counted rest) lim rest 16 i (form_components lim rest f) h in
           let r = records_shift s p.at q in
-          let e : get_or new i 0 ≡ p.at + q = get_d_shift p.at qs i (omega (arith, length_places (counted rest) rest 16)) in
+          let e : get_or new i 0 ≡ p.at + q = get_d_shift p.at qs i
+          (omega (arith, length_places (counted rest) rest 16)) in
           rw (e, r) (omega (arith, length-drop p.at s, k.reached))
 
       pub all_within : Within s (p.count + counted rest) after

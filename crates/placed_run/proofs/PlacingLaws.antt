@@ -1,9 +1,10 @@
--- Reading in place gives the number and the components that gathering a layout page by page gives. Distinctness asked once at the
--- end gives the number that asking page by page gives.
+-- Reading in place gives the number and the components that gathering a layout page by page gives. Distinctness asked
+-- once at the end gives the number that asking page by page gives.
 use Prim.Native.Nat.{ℕ, zero, suc, ◌+◌, ◌≤◌, ◌<◌, min}
 use Rattle.std.specs.Prelude.{◌≡◌, List, [], ◌++◌, Bool, true, false, not, eqb, leb, length, take, drop}
 use Rattle.std.proofs.Math.Path.{refl, sym, ap}
-use Rattle.std.proofs.Common.{ap₂, subst, ◌∙◌, append-nil, append_assoc, arith, length-drop, drop-drop, eqb-true, ne_eqb, leb-true, leb-false}
+use Rattle.std.proofs.Common.{ap₂, subst, ◌∙◌, append-nil, append_assoc, arith, length-drop, drop-drop, eqb-true}
+use Rattle.std.proofs.Common.{ne_eqb, leb-true, leb-false}
 use Rattle.std.proofs.lemmas.List.{map-append, length-map}
 use Rattle.std.proofs.Math.Bool.{cond, and-false}
 use Rattle.std.proofs.Math.Seq.{take-append_seam}
@@ -27,7 +28,8 @@ use Rattle.collector.specs.Collector.{new_collector, gathered}
 use Rattle.collector.specs.Taking.{number_of, is_next, added, content_refusal, settled, content_in, open_in}
 use Rattle.collector.specs.TakingLaws.{settled_number}
 use Rattle.collector.specs.Sound.{view_joined, content_taken}
-use Rattle.collector.proofs.RunLaws.{Held, read_from, read_start, new_held, read_ended, read_closed, closed_more, closed_none}
+use Rattle.collector.proofs.RunLaws.{Held, read_from, read_start, new_held, read_ended, read_closed, closed_more}
+use Rattle.collector.proofs.RunLaws.{closed_none}
 use Rattle.collector.proofs.RunLaws.{read_refused, read_taken, taken_held}
 use Rattle.collector.proofs.CutLaws.{host_ended, host_fault, host_page, host_content}
 use Rattle.collector.specs.Runs.{refused_at, read_run, host_cut}
@@ -76,7 +78,8 @@ module _ (s : List ℕ) where
       (λ e. ([], rw e (sym (append-nil p.places))))
 
   -- The number at the end, if the components of the pages taken are distinct, and if they are not.
-  placed_distinct : (q : Placed) → distinct_hold (components_at s q.places) ≡ true → placed_refusal s q ≡ end_refusal s q
+  placed_distinct : (q : Placed) → distinct_hold (components_at s q.places) ≡ true
+      → placed_refusal s q ≡ end_refusal s q
   unfolding placed_refusal
   placed_distinct q e = ap (λ (b : Bool). cond b (end_refusal s q) 8) e
 
@@ -147,7 +150,8 @@ module _ (s : List ℕ) where
           layout = λ x. let y : n ≡ 0 = rw e at x in absurd (omega arith);
         }
 
-    -- Pages are outstanding, and the next page has its form: the components that it adds, and the number of its refusal.
+    -- Pages are outstanding, and the next page has its form: the components that it adds, and the number of its
+    -- refusal.
     module _ (more : p.more ≡ true) (some : 0 < length rest) (form : form_by (min 512 (length rest)) rest ≡ true) where
       abbrev new : List Component
       new = components_of rest
@@ -198,7 +202,8 @@ module _ (s : List ℕ) where
           (λ e. rw (asked_light, asked_full, e))
 
       -- where it does not, the collector asks no more than distinctness.
-      full_rest : next_refusal s p ≡ 0 → content_refusal c (head_of rest) new ≡ cond (distinct_hold (gathered c ++ new)) 0 8
+      full_rest : next_refusal s p ≡ 0 → content_refusal c (head_of rest) new
+          ≡ cond (distinct_hold (gathered c ++ new)) 0 8
       full_rest h =
           bool_cases next_test
           (λ e. bool_cases room_test
@@ -222,7 +227,8 @@ module _ (s : List ℕ) where
       full_refused : (n : ℕ) → content_refusal c (head_of rest) new ≡ n → 0 < n
           → read_from host_cut c rest ≡ refused_at n c.pages
       full_refused n e h =
-          read_refused c m.held host_cut rest outstanding cut_page (drop (page_end rest) rest) (host_page rest some form)
+          read_refused c m.held host_cut rest outstanding cut_page (drop (page_end rest) rest)
+          (host_page rest some form)
           n (said_number n e) h
 
       -- Taken, the collector with the page matches the reading with its places.
@@ -238,7 +244,8 @@ module _ (s : List ℕ) where
 
         full_taken : read_from host_cut c rest ≡ read_from host_cut c' (drop (with_page s p).at s)
         full_taken =
-            read_taken c m.held host_cut rest outstanding cut_page (drop (page_end rest) rest) (host_page rest some form)
+            read_taken c m.held host_cut rest outstanding cut_page (drop (page_end rest) rest)
+            (host_page rest some form)
             (said_number 0 z)
             ∙ rw (drop-drop (page_end rest) p.at s)
 

@@ -1,5 +1,6 @@
 -- What a page call in place gives, after a walk over the page.
-use Rattle.std.specs.Prelude.{ℕ, ◌+◌, ◌≤◌, ◌<◌, min, ◌≡◌, refl, List, Option, Some, None, Bool, true, false, length, take, drop}
+use Rattle.std.specs.Prelude.{ℕ, ◌+◌, ◌≤◌, ◌<◌, min, ◌≡◌, refl, List, Option, Some, None, Bool, true, false, length}
+use Rattle.std.specs.Prelude.{take, drop}
 use Rattle.std.proofs.Common.{sym, ap, subst, ◌∙◌, arith, length-drop, length-take, get_or-take, get_or-drop}
 use Rattle.std.proofs.lemmas.List.Edits.{sets}
 use Rattle.std.proofs.Math.Seq.{slice}
@@ -74,9 +75,8 @@ pub record Joins (s : List ℕ) (p : Progress) (places after : List ℕ) (r : �
 module _ {s : List ℕ} {p : Progress} {places after : List ℕ} {r : Option ℕ} (w : Walk s p places after r) where
   refuses : (n : ℕ) → next_refusal s (placed_of 0 p places) ≡ n → 0 < n → Gives s p places n p after
   refuses n e z =
-      let k = w.known in
-      let room = w.walks.2 ∙ k.room in
-      (says_refused s p places k after w.walks.1 room n e z, kept_refused s p places k after w.walks.1 room)
+      let room = w.walks.2 ∙ w.known.room in
+      (says_refused s p places w.known after w.walks.1 room n e z, kept_refused s p places w.known after w.walks.1 room)
 
   -- The page does not have its form.
   pub gives_3 : r ≡ None → Gives s p places 3 p after
@@ -104,69 +104,69 @@ module _ {s : List ℕ} {p : Progress} {places after : List ℕ} {r : ℕ} (w : 
         w.known.reached,
       )
 
-module _ {s : List ℕ} {p : Progress} {places after : List ℕ} {r : ℕ} {head : Head} (x : Page s p places after r head) where
-  counts : head.count ≡ counted (rest s p)
-  unfolding head_of
-  counts = ap (λ (h : Head). h.count) x.is
+module _ {s : List ℕ} {p : Progress} {places after : List ℕ} {r : ℕ} {head : Head} (x : Page s p places after r head)
+  where
+    counts : head.count ≡ counted (rest s p)
+    unfolding head_of
+    counts = ap (λ (h : Head). h.count) x.is
 
-  -- It is not the next.
-  pub gives_4 : is_next p.pages p.generation head ≡ false → Gives s p places 4 p after
-  gives_4 i =
-      let w = x.walk in
-      refuses w 4 (next_4 s p places w.known w.some (formed w) (rw x.is at i)) (omega arith)
+    -- It is not the next.
+    pub gives_4 : is_next p.pages p.generation head ≡ false → Gives s p places 4 p after
+    gives_4 i =
+        let w = x.walk in
+        refuses w 4 (next_4 s p places w.known w.some (formed w) (rw x.is at i)) (omega arith)
 
-  -- There would be more than 16 components.
-  pub gives_5 : is_next p.pages p.generation head ≡ true → 16 < p.count + head.count
-      → Gives s p places 5 p after
-  gives_5 i l =
-      let w = x.walk in
-      refuses w 5
-      (next_5 s p places w.known w.some (formed w) (rw x.is at i) (omega (arith, counts)))
-      (omega arith)
+    -- There would be more than 16 components.
+    pub gives_5 : is_next p.pages p.generation head ≡ true → 16 < p.count + head.count
+        → Gives s p places 5 p after
+    gives_5 i l =
+        let w = x.walk in
+        refuses w 5
+        (next_5 s p places w.known w.some (formed w) (rw x.is at i) (omega (arith, counts)))
+        (omega arith)
 
-module _ {s : List ℕ} {p : Progress} {places after : List ℕ} {r : ℕ} {head : Head} (j : Joins s p places after r head) where
-  form : form_by (min 512 (length (rest s p))) (rest s p) ≡ true
-  form = formed j.page.walk
+module _ {s : List ℕ} {p : Progress} {places after : List ℕ} {r : ℕ} {head : Head} (j : Joins s p places after r head)
+  where
+    form : form_by (min 512 (length (rest s p))) (rest s p) ≡ true
+    form = formed j.page.walk
 
-  fits : p.count + counted (rest s p) ≤ 16
-  fits = omega (arith, counts j.page, j.few)
+    fits : p.count + counted (rest s p) ≤ 16
+    fits = omega (arith, counts j.page, j.few)
 
-  stored : after ≡ sets places p.count (page_places p.at (rest s p))
-  stored = j.page.walk.walks.3 form
+    stored : after ≡ sets places p.count (page_places p.at (rest s p))
+    stored = j.page.walk.walks.3 form
 
-  -- All components end by the end of the bytes.
-  pub ends_within : Within s (p.count + head.count) after
-  ends_within = rw (counts j.page, stored) (all_within s p places j.page.walk.known form fits)
+    -- All components end by the end of the bytes.
+    pub ends_within : Within s (p.count + head.count) after
+    ends_within = rw (counts j.page, stored) (all_within s p places j.page.walk.known form fits)
 
-  -- What is asked of the components at the new places is the number of the page.
-  asked : new_rule_broken head.more (components_at s (take p.count after))
-      (components_at s (slice p.count (p.count + head.count) after))
-      ≡ next_refusal s (placed_of 0 p places)
-  asked =
-      let w = j.page.walk in
-      let new : slice p.count (p.count + head.count) after ≡ page_places p.at (rest s p) =
-      rw (counts j.page, stored) (new_places s p places w.known form fits) in
-      rw (w.walks.1, new, j.page.is)
-      (sym (next_rule s p places w.known w.some form (rw j.page.is at j.next) fits))
+    -- What is asked of the components at the new places is the number of the page.
+    asked : new_rule_broken head.more (components_at s (take p.count after))
+        (components_at s (slice p.count (p.count + head.count) after))
+        ≡ next_refusal s (placed_of 0 p places)
+    asked =
+        let new : slice p.count (p.count + head.count) after ≡ page_places p.at (rest s p) =
+        rw (counts j.page, stored) (new_places s p places j.page.walk.known form fits) in
+        rw (j.page.walk.walks.1, new, j.page.is)
+        (sym (next_rule s p places j.page.walk.known j.page.walk.some form (rw j.page.is at j.next) fits))
 
-  module _ (rule : ℕ) (o : rule ≡ new_rule_broken head.more (components_at s (take p.count after))
-      (components_at s (slice p.count (p.count + head.count) after))) where
-    -- They break a rule.
-    pub gives_rule : 0 < rule → Gives s p places rule p after
-    gives_rule z = refuses j.page.walk rule (sym (o ∙ asked)) z
+    module _ (rule : ℕ) (o : rule ≡ new_rule_broken head.more (components_at s (take p.count after))
+        (components_at s (slice p.count (p.count + head.count) after))) where
+      -- They break a rule.
+      pub gives_rule : 0 < rule → Gives s p places rule p after
+      gives_rule z = refuses j.page.walk rule (sym (o ∙ asked)) z
 
-    -- The page is taken.
-    pub gives_page : rule ≡ 0 → Gives s p places 0 (taken p head r) after
-    gives_page z =
-        let k = j.page.walk.known in
-        let end = ended j.page.walk in
-        let n = counts j.page in
-        let all = all_places s p places k form fits in (
-          rw (next_taken s (placed_of 0 p places) (sym (o ∙ asked) ∙ z), end, n, stored, all, j.page.is),
-          subst (InRange s (taken p head r)) (sym stored)
-              (kept_taken s p places k form fits (taken p head r) (ap (λ (x : ℕ). p.at + x) end) refl
-              (ap (λ (x : ℕ). p.count + x) n)),
-        )
+      -- The page is taken.
+      pub gives_page : rule ≡ 0 → Gives s p places 0 (taken p head r) after
+      gives_page z =
+          let end = ended j.page.walk in
+          let n = counts j.page in
+          let all = all_places s p places j.page.walk.known form fits in (
+            rw (next_taken s (placed_of 0 p places) (sym (o ∙ asked) ∙ z), end, n, stored, all, j.page.is),
+            subst (InRange s (taken p head r)) (sym stored)
+                (kept_taken s p places j.page.walk.known form fits (taken p head r) (ap (λ (x : ℕ). p.at + x) end) refl
+                (ap (λ (x : ℕ). p.count + x) n)),
+          )
 
 -- What holds of all places holds of the first of them and of the rest.
 module _ (s ps : List ℕ) (n m : ℕ) (h : n ≤ m) (w : Within s m ps) where

@@ -2,7 +2,8 @@
 use Rattle.std.specs.Prelude.{ℕ, zero, suc, ◌+◌, ◌-◌, ◌≤◌, ◌<◌, ◌≡◌, refl, List, Bool, true, false, cond}
 use Rattle.std.proofs.Common.{sym, ap, ◌∙◌, arith, ne_eqb}
 use Rattle.std.proofs.Math.Bool.{and-false}
-use Rattle.placed_run.specs.Placing.{Placed, none_placed, next_refusal, refused_by, with_page, placed_next, goes_on, placed_on}
+use Rattle.placed_run.specs.Placing.{Placed, none_placed, next_refusal, refused_by, with_page, placed_next, goes_on}
+use Rattle.placed_run.specs.Placing.{placed_on}
 use Rattle.placed_run.specs.Placing.{placed_run}
 use Rattle.placed_run.proofs.PlacingLaws.{placed_stays, next_refused, next_taken}
 

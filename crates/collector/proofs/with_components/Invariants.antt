@@ -1,4 +1,5 @@
--- `collector::with_components` meets its contract: what all stores give is what the stores that are left give to the array.
+-- `collector::with_components` meets its contract: what all stores give is what the stores that are left give to the
+-- array.
 use Prim.Native.Nat.{◌+◌}
 use mathlib.Core.Path.{◌≡◌}
 use mathlib.Core.List.{map}

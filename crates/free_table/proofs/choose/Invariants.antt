@@ -1,5 +1,5 @@
--- `free_table::choose` meets its contract: what is chosen from all the records is the choice so far and what is chosen from
--- those from r on.
+-- `free_table::choose` meets its contract: what is chosen from all the records is the choice so far and what is chosen
+-- from those from r on.
 use Rattle.std.proofs.Common.{◌≡◌, ◌-◌, ◌≤◌, drop}
 use Rattle.free_table.specs.Table.{usable}
 use Rattle.free_table.specs.Choosing.{chosen, choice_of, with_more}

@@ -1,4 +1,5 @@
--- `free_table::is_low` meets its contract: the target is low in the table exactly if it is low in the records from r on.
+-- `free_table::is_low` meets its contract: the target is low in the table exactly if it is low in the records from r
+-- on.
 use Rattle.std.proofs.Common.{◌≡◌, drop}
 use Rattle.free_table.specs.Table.{is_low}
 use Rattle.free_table.proofs.is_low.Given as goal

@@ -1,5 +1,5 @@
--- `free_table::raise` meets its contract: what is raised of all the records is the records before r, and what is raised of those
--- from r on.
+-- `free_table::raise` meets its contract: what is raised of all the records is the records before r, and what is raised
+-- of those from r on.
 use Rattle.std.proofs.Common.{◌≡◌, ◌++◌, take, drop}
 use Rattle.free_table.specs.Table.{usable}
 use Rattle.free_table.specs.Choosing.{raised_first}

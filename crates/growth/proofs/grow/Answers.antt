@@ -10,13 +10,14 @@ use Rattle.growth.proofs.grow.Goals as goal
 pub returns-then-not-is_valid : goal.returns-then-not-is_valid
 unfolding grow_says
 returns-then-not-is_valid c =
-    let a = c.args in
-    let e = grow_invalid a.l (call_of a.offset a.mark a.table.now) (sym c.is_valid.ensures ∙ c.if-not-is_valid.true) in
-    subst (λ (o : Outcome). GrownSays a.l (Err NotValid) a.table.now o) (sym e)
+    let e = grow_invalid c.args.l (call_of c.args.offset c.args.mark c.args.table.now)
+    (sym c.is_valid.ensures ∙ c.if-not-is_valid.true) in
+    subst (λ (o : Outcome). GrownSays c.args.l (Err NotValid) c.args.table.now o) (sym e)
     record { answer = refl; layout = refl; table = refl }
 
 pub returns : goal.returns
 returns c =
-    let a = c.args in
-    let e = grow_checked a.l (call_of a.offset a.mark a.table.now) (sym c.is_valid.ensures ∙ c.if-not-is_valid.false) in
-    subst (λ (o : Outcome). GrownSays a.l c.grow_valid.result c.grow_valid.new.table o) (sym e) c.grow_valid.ensures
+    let e = grow_checked c.args.l (call_of c.args.offset c.args.mark c.args.table.now)
+    (sym c.is_valid.ensures ∙ c.if-not-is_valid.false) in
+    subst (λ (o : Outcome). GrownSays c.args.l c.grow_valid.result c.grow_valid.new.table o) (sym e)
+    c.grow_valid.ensures

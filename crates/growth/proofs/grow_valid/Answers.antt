@@ -42,55 +42,54 @@ module _ (l : Layout) (v : Valid l) (offset : ℕ) where
 pub returns-in_err-i : goal.returns-in_err-i
 unfolding grow_says
 returns-in_err-i c =
-    let a = c.args in
     let r : c.from_residual.result ≡ Err PastEnd = search rules in
     let e =
-    grow_past a.l (call_of a.offset a.mark a.table.now)
-    (past a.l (valid_facts a.l c.requires) a.offset (sym c.holder.ensures ∙ c.in_err-i.ensures.ok_part)) in
-    subst (λ (o : Outcome). GrownSays a.l c.from_residual.result a.table.now o) (sym e)
+    grow_past c.args.l (call_of c.args.offset c.args.mark c.args.table.now)
+    (past c.args.l (valid_facts c.args.l c.requires) c.args.offset (sym c.holder.ensures ∙ c.in_err-i.ensures.ok_part))
+    in
+    subst (λ (o : Outcome). GrownSays c.args.l c.from_residual.result c.args.table.now o) (sym e)
     record { answer = rw r; layout = rw r; table = refl }
 
 pub returns-then-not-table_ok : goal.returns-then-not-table_ok
 unfolding grow_says
 returns-then-not-table_ok c =
-    let a = c.args in
-    let below = inside a.l (valid_facts a.l c.requires) a.offset c.in_ok-i.i (sym c.holder.ensures ∙ c.in_ok-i.ensures.ok_part) in
+    let below = inside c.args.l (valid_facts c.args.l c.requires) c.args.offset c.in_ok-i.i
+    (sym c.holder.ensures ∙ c.in_ok-i.ensures.ok_part) in
     let e =
-    grow_bad_table a.l (call_of a.offset a.mark a.table.now) below (sym c.table_ok.ensures ∙ c.if-not-table_ok.true) in
-    subst (λ (o : Outcome). GrownSays a.l (Err Refusal.Table) a.table.now o) (sym e)
+    grow_bad_table c.args.l (call_of c.args.offset c.args.mark c.args.table.now) below
+    (sym c.table_ok.ensures ∙ c.if-not-table_ok.true) in
+    subst (λ (o : Outcome). GrownSays c.args.l (Err Refusal.Table) c.args.table.now o) (sym e)
     record { answer = refl; layout = refl; table = refl }
 
 pub returns-in_err-plan : goal.returns-in_err-plan
 unfolding grow_says plan_says outcome_of
 returns-in_err-plan c =
-    let a = c.args in
-    let call = call_of a.offset a.mark a.table.now in
-    let v = valid_facts a.l c.requires in
-    let i = c.in_ok-i.i in
+    let call = call_of c.args.offset c.args.mark c.args.table.now in
+    let v = valid_facts c.args.l c.requires in
     let there = sym c.holder.ensures ∙ c.in_ok-i.ensures.ok_part in
-    let e = c.in_err-plan.field-0.0 in
-    let r : c.from_residual-in_err-plan.result ≡ Err e = search rules in
-    let plan : PlanFor a.l call (Err e) =
-    rw (sym c.in_err-plan.ensures) at (plan_found a.l v a.offset a.mark a.table.now i there) in
+    let r : c.from_residual-in_err-plan.result ≡ Err c.in_err-plan.field-0.0 = search rules in
+    let plan : PlanFor c.args.l call (Err c.in_err-plan.field-0.0) =
+    rw (sym c.in_err-plan.ensures) at (plan_found c.args.l v c.args.offset c.args.mark c.args.table.now c.in_ok-i.i
+    there) in
     let s =
-    grow_steps a.l call (inside a.l v a.offset i there) (sym c.table_ok.ensures ∙ c.if-not-table_ok.false)
-    ∙ ap (outcome_of a.l call) (sym plan.says) in
-    subst (λ (o : Outcome). GrownSays a.l c.from_residual-in_err-plan.result a.table.now o) (sym s)
+    grow_steps c.args.l call (inside c.args.l v c.args.offset c.in_ok-i.i there)
+    (sym c.table_ok.ensures ∙ c.if-not-table_ok.false)
+    ∙ ap (outcome_of c.args.l call) (sym plan.says) in
+    subst (λ (o : Outcome). GrownSays c.args.l c.from_residual-in_err-plan.result c.args.table.now o) (sym s)
     record { answer = rw (r, plan.within); layout = rw r; table = refl }
 
 pub of_plan-requires : goal.of_plan-requires
 of_plan-requires c =
-    let a = c.args in
     let there = sym c.holder.ensures ∙ c.in_ok-i.ensures.ok_part in
-    let plan = plan_found a.l (valid_facts a.l c.requires) a.offset a.mark a.table.now c.in_ok-i.i there in
+    let plan = plan_found c.args.l (valid_facts c.args.l c.requires) c.args.offset c.args.mark c.args.table.now
+    c.in_ok-i.i there in
     (c.requires, sym c.table_ok.ensures ∙ c.if-not-table_ok.false, rw (sym c.in_ok-plan.ensures) at plan)
 
 pub returns : goal.returns
 returns c =
-    let a = c.args in
     let there = sym c.holder.ensures ∙ c.in_ok-i.ensures.ok_part in
     let e =
-    grow_steps a.l (call_of a.offset a.mark a.table.now)
-    (inside a.l (valid_facts a.l c.requires) a.offset c.in_ok-i.i there)
+    grow_steps c.args.l (call_of c.args.offset c.args.mark c.args.table.now)
+    (inside c.args.l (valid_facts c.args.l c.requires) c.args.offset c.in_ok-i.i there)
     (sym c.table_ok.ensures ∙ c.if-not-table_ok.false) in
-    subst (λ (o : Outcome). GrownSays a.l c.of_plan.result c.of_plan.new.table o) (sym e) c.of_plan.ensures
+    subst (λ (o : Outcome). GrownSays c.args.l c.of_plan.result c.of_plan.new.table o) (sym e) c.of_plan.ensures

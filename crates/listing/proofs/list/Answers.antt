@@ -6,11 +6,11 @@ use Rattle.listing.proofs.list.Goals as goal
 
 pub returns-clause-value : goal.returns-clause-value
 returns-clause-value c =
-    let out = c.args.out.now in
     let listing = listing_of c.args.input.now in
     let n = c.min-n.result in
-    let text = c.listing_of-text.ensures in
-    let whole = ap length text in
-    let least : n ≡ min (length listing) (length out) = omega (arith, whole, c.len.ensures.value, c.min-n.ensures) in
-    let part = c.copy_from_slice.ensures.after ∙ ap (take n) (c.as_bytes.ensures.value ∙ c.deref.ensures.0 ∙ text) in
-    (c.len-2.ensures.value ∙ whole, rw part (copied out listing n least))
+    let whole = ap length c.listing_of-text.ensures in
+    let least : n ≡ min (length listing) (length c.args.out.now) =
+    omega (arith, whole, c.len.ensures.value, c.min-n.ensures) in
+    let part = c.copy_from_slice.ensures.after ∙ ap (take n) (c.as_bytes.ensures.value ∙ c.deref.ensures.0
+    ∙ c.listing_of-text.ensures) in
+    (c.len-2.ensures.value ∙ whole, rw part (copied c.args.out.now listing n least))

@@ -11,11 +11,11 @@ use Rattle.paging.proofs.from_page.Goals as goal
 pub returns-then-is_empty : goal.returns-then-is_empty
 returns-then-is_empty c =
     let none : length c.loop.rest.now ≡ 0 = search (rules, tests) in
-    let later = none_later c.loop.counter c.args.number c.args.components.now (omega arith) (rw c.loop.invariant at none) in
+    let later = none_later c.loop.counter c.args.number c.args.components.now (omega arith)
+    (rw c.loop.invariant at none) in
     c.loop.invariant ∙ sym later
 
 pub loop-preserved : goal.loop-preserved
 loop-preserved c =
-    let rest = c.loop.rest.now in
-    take_rest rest c.in_page.result
+    take_rest c.loop.rest.now c.in_page.result
     ∙ rw (c.in_page.ensures.0, c.loop.invariant, add-one) (sym (next_page c.loop.counter c.args.components.now))

@@ -10,16 +10,12 @@ use Rattle.paging.proofs.in_page.Goals as goal
 
 pub returns-then-room-size : goal.returns-then-room-size
 returns-then-room-size c =
-    let i = c.loop-i.i in
-    let cs = c.args.components.now in
-    let next = drop-cons cs i unread c.loop-i-test.true in
-    let x = lt-leb (size_of (get_or cs i unread)) c.loop-i.room (omega arith) in
-    (sym (c.loop-i.invariant ∙ rw (next, x) (add-zero i)), omega arith)
+    let next = drop-cons c.args.components.now c.loop-i.i unread c.loop-i-test.true in
+    let x = lt-leb (size_of (get_or c.args.components.now c.loop-i.i unread)) c.loop-i.room (omega arith) in
+    (sym (c.loop-i.invariant ∙ rw (next, x) (add-zero c.loop-i.i)), omega arith)
 
 pub loop-i-preserved : goal.loop-i-preserved
 loop-i-preserved c =
-    let i = c.loop-i.i in
-    let cs = c.args.components.now in
-    let next = drop-cons cs i unread c.loop-i-test.true in
-    let x = le-leb (size_of (get_or cs i unread)) c.loop-i.room (omega arith) in
+    let next = drop-cons c.args.components.now c.loop-i.i unread c.loop-i-test.true in
+    let x = le-leb (size_of (get_or c.args.components.now c.loop-i.i unread)) c.loop-i.room (omega arith) in
     c.loop-i.invariant ∙ rw (next, x, c.size_of-size.ensures.0, add-one) (omega arith)

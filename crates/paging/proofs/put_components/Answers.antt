@@ -19,22 +19,20 @@ room_next cs i at room h r = rw (drop-cons cs i unread h, length-append, length_
 
 pub put_component-at-requires : goal.put_component-at-requires
 put_component-at-requires c =
-    let p = c.loop-c in
-    let r = room_next c.args.components.now p.c-index p.at _ c.loop-c-test.true p.invariant.room in
+    let r = room_next c.args.components.now c.loop-c.c-index c.loop-c.at _ c.loop-c-test.true c.loop-c.invariant.room in
     omega arith
 
 pub loop-c-preserved : goal.loop-c-preserved
 loop-c-preserved c =
-    let p = c.loop-c in
     let cs = c.args.components.now in
-    let x = get_or cs p.c-index unread in
-    let rest = drop (suc p.c-index) cs in
-    let next = drop-cons cs p.c-index unread c.loop-c-test.true in
-    let r = room_next cs p.c-index p.at _ c.loop-c-test.true p.invariant.room in
+    let x = get_or cs c.loop-c.c-index unread in
+    let rest = drop (suc c.loop-c.c-index) cs in
+    let next = drop-cons cs c.loop-c.c-index unread c.loop-c-test.true in
+    let r = room_next cs c.loop-c.c-index c.loop-c.at _ c.loop-c-test.true c.loop-c.invariant.room in
     let put = c.put_component-at in
     record {
       room = rw (put.ensures.0, add-one) (omega arith);
-      stored = p.invariant.stored
+      stored = c.loop-c.invariant.stored
           ∙ rw (next, put.ensures.1, put.ensures.0, ← length_component x, add-one)
-          (sets_append p.buffer p.at (component_bytes x) (components_bytes rest));
+          (sets_append c.loop-c.buffer c.loop-c.at (component_bytes x) (components_bytes rest));
     }

@@ -9,20 +9,22 @@ use Rattle.placed_run.proofs.read.Goals as goal
 pub returns-then-not-distinct : goal.returns-then-not-distinct
 returns-then-not-distinct c =
     let r = c.read_on-end in
-    finds_repeat c.args.s.now r.new.p r.new.places r.ensures.1 (number_in r.result) r.ensures.0 (sym c.if-not-distinct.ensures)
+    finds_repeat c.args.s.now r.new.p r.new.places r.ensures.1 (number_in r.result) r.ensures.0
+    (sym c.if-not-distinct.ensures)
 
 pub returns-in_err-end : goal.returns-in_err-end
 returns-in_err-end c =
     let r = c.read_on-end in
-    let e = c.in_err-end.field-0.0 in
-    let w : c.from_residual.result ≡ Err e = search rules in
-    rw w (finds_refused c.args.s.now r.new.p r.new.places r.ensures.1 (number_in r.result) r.ensures.0 (sym c.if-not-distinct.ensures)
-    e (sym (ap number_in c.in_err-end.was)))
+    let w : c.from_residual.result ≡ Err c.in_err-end.field-0.0 = search rules in
+    rw w (finds_refused c.args.s.now r.new.p r.new.places r.ensures.1 (number_in r.result) r.ensures.0
+    (sym c.if-not-distinct.ensures)
+    c.in_err-end.field-0.0 (sym (ap number_in c.in_err-end.was)))
 
 pub returns-then-p-s : goal.returns-then-p-s
 returns-then-p-s c =
     let r = c.read_on-end in
-    finds_more c.args.s.now r.new.p r.new.places r.ensures.1 (number_in r.result) r.ensures.0 (sym c.if-not-distinct.ensures)
+    finds_more c.args.s.now r.new.p r.new.places r.ensures.1 (number_in r.result) r.ensures.0
+    (sym c.if-not-distinct.ensures)
     (ap number_in c.in_ok-end.was) c.if-p-s.true
 
 pub returns : goal.returns

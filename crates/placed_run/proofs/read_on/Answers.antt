@@ -35,32 +35,39 @@ take_next-requires c = c.loop-p.invariant.0
 
 pub loop-p-smaller : goal.loop-p-smaller
 loop-p-smaller c =
-    let l = c.loop-p in
-    let k = l.invariant.0 in
-    let q = placed_of 0 l.p l.places in
+    let q = placed_of 0 c.loop-p.p c.loop-p.places in
     subst (λ (x : Placed). turns_left x < turns_left q) (sym c.in_ok-take_next.ensures.0)
-    (turn_less c.args.s.now q (omega (arith, k.pages, k.few)) (wanted l.p l.places c.loop-p-test.true))
+    (turn_less c.args.s.now q (omega (arith, c.loop-p.invariant.0.pages, c.loop-p.invariant.0.few))
+    (wanted c.loop-p.p c.loop-p.places c.loop-p-test.true))
 
 pub loop-p-preserved : goal.loop-p-preserved
 loop-p-preserved c =
-    let l = c.loop-p in
-    let k = l.invariant.0 in
-    let s = c.args.s.now in
-    let t = turn_next s (placed_of 0 l.p l.places) (omega (arith, k.pages, k.few)) (wanted l.p l.places c.loop-p-test.true) in
-    (c.in_ok-take_next.ensures.1, l.invariant.1 ∙ t ∙ ap (placed_from s) (sym c.in_ok-take_next.ensures.0))
+    let t = turn_next c.args.s.now (placed_of 0 c.loop-p.p c.loop-p.places)
+    (omega (arith, c.loop-p.invariant.0.pages, c.loop-p.invariant.0.few))
+    (wanted c.loop-p.p c.loop-p.places c.loop-p-test.true) in (
+      c.in_ok-take_next.ensures.1,
+      c.loop-p.invariant.1 ∙ t
+          ∙ ap (placed_from c.args.s.now) (sym c.in_ok-take_next.ensures.0),
+    )
 
 pub returns-in_err-take_next : goal.returns-in_err-take_next
 returns-in_err-take_next c =
-    let l = c.loop-p in
-    let k = l.invariant.0 in
     let s = c.args.s.now in
     let e = c.in_err-take_next.field-0.0 in
     let r : c.from_residual.result ≡ Err e = search rules in
-    let t = turn_next s (placed_of 0 l.p l.places) (omega (arith, k.pages, k.few)) (wanted l.p l.places c.loop-p-test.true) in
-    let q = c.in_err-take_next.ensures in
-    rw r (sym (l.invariant.1 ∙ t ∙ ap (placed_from s) (sym q.0) ∙ turn_end s (placed_of (number_of e) c.take_next.new.p c.take_next.new.places) (unwanted c.take_next.new.p c.take_next.new.places (number_of e) (number_pos e))), q.1)
+    let t = turn_next s (placed_of 0 c.loop-p.p c.loop-p.places)
+    (omega (arith, c.loop-p.invariant.0.pages, c.loop-p.invariant.0.few))
+    (wanted c.loop-p.p c.loop-p.places c.loop-p-test.true) in
+    rw r (
+      sym (c.loop-p.invariant.1 ∙ t ∙ ap (placed_from s) (sym c.in_err-take_next.ensures.0)
+          ∙ turn_end s (placed_of (number_of e) c.take_next.new.p c.take_next.new.places)
+          (unwanted c.take_next.new.p c.take_next.new.places (number_of e) (number_pos e))),
+      c.in_err-take_next.ensures.1,
+    )
 
 pub returns : goal.returns
-returns c =
-    let l = c.loop-p in
-    (sym (l.invariant.1 ∙ turn_end c.args.s.now (placed_of 0 l.p l.places) (rw c.loop-p-test.false)), l.invariant.0)
+returns c = (
+  sym (c.loop-p.invariant.1 ∙ turn_end c.args.s.now (placed_of 0 c.loop-p.p c.loop-p.places)
+      (rw c.loop-p-test.false)),
+  c.loop-p.invariant.0,
+)

@@ -21,65 +21,78 @@ returns-in_err-bytes c =
 
 pub head_next-head-requires : goal.head_next-head-requires
 head_next-head-requires c =
-    let a = c.args in
-    let p = a.p.now in
-    let after = c.walk_next.new.places in
-    let bytes = c.in_ok-bytes.bytes in
-    let w : Walk a.s.now p a.places.now after (Some bytes) =
-    record { known = c.requires; some = c.if-s-p.false; walks = rw c.in_ok-bytes.ensures.ok_part at c.walk_next.ensures } in
+    let w : Walk c.args.s.now c.args.p.now c.args.places.now c.walk_next.new.places (Some c.in_ok-bytes.bytes) =
+    record {
+      known = c.requires;
+      some = c.if-s-p.false;
+      walks =
+          rw c.in_ok-bytes.ensures.ok_part at c.walk_next.ensures;
+    } in
     has_head w
 
 pub returns-then-not-is_next : goal.returns-then-not-is_next
 returns-then-not-is_next c =
-    let a = c.args in
-    let p = a.p.now in
-    let after = c.walk_next.new.places in
-    let bytes = c.in_ok-bytes.bytes in
-    let w : Walk a.s.now p a.places.now after (Some bytes) =
-    record { known = c.requires; some = c.if-s-p.false; walks = rw c.in_ok-bytes.ensures.ok_part at c.walk_next.ensures } in
-    let h = c.head_next-head.result in
-    let g : Page a.s.now p a.places.now after bytes h = record { walk = w; is = c.head_next-head.ensures } in
+    let w : Walk c.args.s.now c.args.p.now c.args.places.now c.walk_next.new.places (Some c.in_ok-bytes.bytes) =
+    record {
+      known = c.requires;
+      some = c.if-s-p.false;
+      walks =
+          rw c.in_ok-bytes.ensures.ok_part at c.walk_next.ensures;
+    } in
+    let g : Page c.args.s.now c.args.p.now c.args.places.now c.walk_next.new.places c.in_ok-bytes.bytes
+    c.head_next-head.result = record { walk = w; is = c.head_next-head.ensures } in
     gives_4 g (sym c.is_next.ensures ∙ c.if-not-is_next.true)
 
 pub returns-then-to-gt16 : goal.returns-then-to-gt16
 returns-then-to-gt16 c =
-    let a = c.args in
-    let p = a.p.now in
-    let after = c.walk_next.new.places in
-    let bytes = c.in_ok-bytes.bytes in
-    let w : Walk a.s.now p a.places.now after (Some bytes) =
-    record { known = c.requires; some = c.if-s-p.false; walks = rw c.in_ok-bytes.ensures.ok_part at c.walk_next.ensures } in
-    let h = c.head_next-head.result in
-    let g : Page a.s.now p a.places.now after bytes h = record { walk = w; is = c.head_next-head.ensures } in
+    let w : Walk c.args.s.now c.args.p.now c.args.places.now c.walk_next.new.places (Some c.in_ok-bytes.bytes) =
+    record {
+      known = c.requires;
+      some = c.if-s-p.false;
+      walks =
+          rw c.in_ok-bytes.ensures.ok_part at c.walk_next.ensures;
+    } in
+    let g : Page c.args.s.now c.args.p.now c.args.places.now c.walk_next.new.places c.in_ok-bytes.bytes
+    c.head_next-head.result = record { walk = w; is = c.head_next-head.ensures } in
     gives_5 g (sym c.is_next.ensures ∙ c.if-not-is_next.false) c.if-to-gt16.true
 
 pub check_new-requires : goal.check_new-requires
 check_new-requires c =
-    let a = c.args in
-    let p = a.p.now in
+    let p = c.args.p.now in
     let after = c.walk_next.new.places in
     let bytes = c.in_ok-bytes.bytes in
-    let w : Walk a.s.now p a.places.now after (Some bytes) =
-    record { known = c.requires; some = c.if-s-p.false; walks = rw c.in_ok-bytes.ensures.ok_part at c.walk_next.ensures } in
+    let w : Walk c.args.s.now p c.args.places.now after (Some bytes) =
+    record {
+      known = c.requires;
+      some = c.if-s-p.false;
+      walks =
+          rw c.in_ok-bytes.ensures.ok_part at c.walk_next.ensures;
+    } in
     let h = c.head_next-head.result in
-    let g : Page a.s.now p a.places.now after bytes h = record { walk = w; is = c.head_next-head.ensures } in
-    let j : Joins a.s.now p a.places.now after bytes h =
+    let g : Page c.args.s.now p c.args.places.now after bytes h = record { walk = w; is = c.head_next-head.ensures } in
+    let j : Joins c.args.s.now p c.args.places.now after bytes h =
     record { page = g; next = sym c.is_next.ensures ∙ c.if-not-is_next.false; few = c.if-to-gt16.false } in
     let k = ends_within j in
-    rw (c.split_at.ensures.front, c.split_at.ensures.back)
-    (within_front a.s.now after p.count (p.count + h.count) (omega arith) k, within_back a.s.now after p.count (p.count + h.count) (omega arith) k)
+    rw (c.split_at.ensures.front, c.split_at.ensures.back) (
+      within_front c.args.s.now after p.count (p.count + h.count) (omega arith) k,
+      within_back c.args.s.now after p.count (p.count + h.count) (omega arith) k,
+    )
 
 pub returns-in_err-check_new : goal.returns-in_err-check_new
 returns-in_err-check_new c =
-    let a = c.args in
-    let p = a.p.now in
+    let p = c.args.p.now in
     let after = c.walk_next.new.places in
     let bytes = c.in_ok-bytes.bytes in
-    let w : Walk a.s.now p a.places.now after (Some bytes) =
-    record { known = c.requires; some = c.if-s-p.false; walks = rw c.in_ok-bytes.ensures.ok_part at c.walk_next.ensures } in
+    let w : Walk c.args.s.now p c.args.places.now after (Some bytes) =
+    record {
+      known = c.requires;
+      some = c.if-s-p.false;
+      walks =
+          rw c.in_ok-bytes.ensures.ok_part at c.walk_next.ensures;
+    } in
     let h = c.head_next-head.result in
-    let g : Page a.s.now p a.places.now after bytes h = record { walk = w; is = c.head_next-head.ensures } in
-    let j : Joins a.s.now p a.places.now after bytes h =
+    let g : Page c.args.s.now p c.args.places.now after bytes h = record { walk = w; is = c.head_next-head.ensures } in
+    let j : Joins c.args.s.now p c.args.places.now after bytes h =
     record { page = g; next = sym c.is_next.ensures ∙ c.if-not-is_next.false; few = c.if-to-gt16.false } in
     let front : c.split_at.result.0.now ≡ take p.count after =
     c.split_at.ensures.front ∙ take-take p.count (p.count + h.count) after (omega arith) in
@@ -90,25 +103,30 @@ returns-in_err-check_new c =
 
 pub overflow_add-p : goal.overflow_add-p
 overflow_add-p c =
-    let a = c.args in
-    let p = a.p.now in
-    let after = c.walk_next.new.places in
-    let bytes = c.in_ok-bytes.bytes in
-    let w : Walk a.s.now p a.places.now after (Some bytes) =
-    record { known = c.requires; some = c.if-s-p.false; walks = rw c.in_ok-bytes.ensures.ok_part at c.walk_next.ensures } in
+    let w : Walk c.args.s.now c.args.p.now c.args.places.now c.walk_next.new.places (Some c.in_ok-bytes.bytes) =
+    record {
+      known = c.requires;
+      some = c.if-s-p.false;
+      walks =
+          rw c.in_ok-bytes.ensures.ok_part at c.walk_next.ensures;
+    } in
     omega (arith, ends_by w)
 
 pub returns : goal.returns
 returns c =
-    let a = c.args in
-    let p = a.p.now in
+    let p = c.args.p.now in
     let after = c.walk_next.new.places in
     let bytes = c.in_ok-bytes.bytes in
-    let w : Walk a.s.now p a.places.now after (Some bytes) =
-    record { known = c.requires; some = c.if-s-p.false; walks = rw c.in_ok-bytes.ensures.ok_part at c.walk_next.ensures } in
+    let w : Walk c.args.s.now p c.args.places.now after (Some bytes) =
+    record {
+      known = c.requires;
+      some = c.if-s-p.false;
+      walks =
+          rw c.in_ok-bytes.ensures.ok_part at c.walk_next.ensures;
+    } in
     let h = c.head_next-head.result in
-    let g : Page a.s.now p a.places.now after bytes h = record { walk = w; is = c.head_next-head.ensures } in
-    let j : Joins a.s.now p a.places.now after bytes h =
+    let g : Page c.args.s.now p c.args.places.now after bytes h = record { walk = w; is = c.head_next-head.ensures } in
+    let j : Joins c.args.s.now p c.args.places.now after bytes h =
     record { page = g; next = sym c.is_next.ensures ∙ c.if-not-is_next.false; few = c.if-to-gt16.false } in
     let front : c.split_at.result.0.now ≡ take p.count after =
     c.split_at.ensures.front ∙ take-take p.count (p.count + h.count) after (omega arith) in

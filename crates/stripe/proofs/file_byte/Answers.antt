@@ -10,27 +10,26 @@ use Rattle.stripe.proofs.file_byte.Goals as goal
 pub returns-in_err-checked_mul : goal.returns-in_err-checked_mul
 unfolding file_byte
 returns-in_err-checked_mul c =
-    let a = c.args in
-    let least = le-mul_of_pos_right (a.p / a.z * a.s + a.i) c.requires.0 in
-    c.from_residual.ensures ∙ sym (file_byte_none a.z a.s a.i a.p (λ h. c.in_err-checked_mul.ensures (omega arith)))
+    let least = le-mul_of_pos_right (c.args.p / c.args.z * c.args.s + c.args.i) c.requires.0 in
+    c.from_residual.ensures ∙ sym (file_byte_none c.args.z c.args.s c.args.i c.args.p
+    (λ h. c.in_err-checked_mul.ensures (omega arith)))
 
 pub returns-in_err-unit : goal.returns-in_err-unit
 unfolding file_byte
 returns-in_err-unit c =
-    let a = c.args in
-    let least = le-mul_of_pos_right (a.p / a.z * a.s + a.i) c.requires.0 in
+    let least = le-mul_of_pos_right (c.args.p / c.args.z * c.args.s + c.args.i) c.requires.0 in
     c.from_residual-in_err-unit.ensures
-    ∙ sym (file_byte_none a.z a.s a.i a.p (λ h. c.in_err-unit.ensures (omega (arith, c.in_ok-checked_mul.ensures))))
+    ∙ sym (file_byte_none c.args.z c.args.s c.args.i c.args.p
+    (λ h. c.in_err-unit.ensures (omega (arith, c.in_ok-checked_mul.ensures))))
 
 pub returns-in_err-checked_mul-2 : goal.returns-in_err-checked_mul-2
 unfolding file_byte
 returns-in_err-checked_mul-2 c =
-    let a = c.args in
-    let unit : c.in_ok-unit.unit ≡ a.p / a.z * a.s + a.i
+    let unit : c.in_ok-unit.unit ≡ c.args.p / c.args.z * c.args.s + c.args.i
     = omega (arith, c.in_ok-checked_mul.ensures, c.in_ok-unit.ensures) in
-    let begin = ap (λ (n : ℕ). n * a.z) unit in
+    let begin = ap (λ (n : ℕ). n * c.args.z) unit in
     c.from_residual-in_err-checked_mul-2.ensures
-    ∙ sym (file_byte_none a.z a.s a.i a.p (λ h. c.in_err-checked_mul-2.ensures (omega arith)))
+    ∙ sym (file_byte_none c.args.z c.args.s c.args.i c.args.p (λ h. c.in_err-checked_mul-2.ensures (omega arith)))
 
 -- A sum that is given if it is below 2^64, where it is the file byte.
 given : (z s i p n : ℕ) (r : Option ℕ) → n ≡ file_byte z s i p → SomeIff r (n < 2 ^ 64) n → r ≡ file_byte_below z s i p
@@ -40,9 +39,9 @@ given z s i p n (Some b) e h = ap Some (h.1 ∙ e) ∙ sym (file_byte_some z s i
 pub returns : goal.returns
 unfolding file_byte
 returns c =
-    let a = c.args in
-    let unit : c.in_ok-unit.unit ≡ a.p / a.z * a.s + a.i
+    let unit : c.in_ok-unit.unit ≡ c.args.p / c.args.z * c.args.s + c.args.i
     = omega (arith, c.in_ok-checked_mul.ensures, c.in_ok-unit.ensures) in
-    let begin : c.in_ok-checked_mul-2.field-0 ≡ (a.p / a.z * a.s + a.i) * a.z
-    = omega (arith, ap (λ (n : ℕ). n * a.z) unit, c.in_ok-checked_mul-2.ensures) in
-    given a.z a.s a.i a.p (c.in_ok-checked_mul-2.field-0 + a.p % a.z) _ (omega arith) (search rules)
+    let begin : c.in_ok-checked_mul-2.field-0 ≡ (c.args.p / c.args.z * c.args.s + c.args.i) * c.args.z
+    = omega (arith, ap (λ (n : ℕ). n * c.args.z) unit, c.in_ok-checked_mul-2.ensures) in
+    given c.args.z c.args.s c.args.i c.args.p (c.in_ok-checked_mul-2.field-0 + c.args.p % c.args.z) _ (omega arith)
+    (search rules)

@@ -9,15 +9,13 @@ use Rattle.stripe.proofs.object_byte.Goals as goal
 
 -- The sum that is computed is the object byte, and at most the file byte.
 byte : (c : goal.After-unit_of) →
-    let a = c.args in
-    let r = c.unit_of.result / a.s * a.z + a.offset % a.z in
-    (r ≡ object_byte a.z a.s a.offset) × (r ≤ a.offset)
+    let r = c.unit_of.result / c.args.s * c.args.z + c.args.offset % c.args.z in
+    (r ≡ object_byte c.args.z c.args.s c.args.offset) × (r ≤ c.args.offset)
 unfolding object_byte
 byte c =
-    let a = c.args in
-    let r = c.unit_of.result / a.s * a.z + a.offset % a.z in
-    let e : r ≡ object_byte a.z a.s a.offset = rw c.unit_of.ensures in
-    (e, rw e (object_byte_le a.z a.s a.offset))
+    let r = c.unit_of.result / c.args.s * c.args.z + c.args.offset % c.args.z in
+    let e : r ≡ object_byte c.args.z c.args.s c.args.offset = rw c.unit_of.ensures in
+    (e, rw e (object_byte_le c.args.z c.args.s c.args.offset))
 
 pub returns : goal.returns
 returns c = (omega (arith, (byte c).0), omega (arith, (byte c).1))

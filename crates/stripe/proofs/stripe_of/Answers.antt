@@ -8,14 +8,12 @@ use Rattle.stripe.proofs.stripe_of.Goals as goal
 
 -- The remainder that is computed is the stripe, and below the stripe count.
 stripe : (c : goal.After-unit_of) →
-    let a = c.args in
-    let r = c.unit_of.result % a.s in
-    (r ≡ stripe_of a.z a.s a.offset) × (r < a.s)
+    let r = c.unit_of.result % c.args.s in
+    (r ≡ stripe_of c.args.z c.args.s c.args.offset) × (r < c.args.s)
 unfolding stripe_of
 stripe c =
-    let a = c.args in
-    let e : c.unit_of.result % a.s ≡ stripe_of a.z a.s a.offset = rw c.unit_of.ensures in
-    (e, rw e (stripe_below a.z a.s a.offset c.requires.1))
+    let e : c.unit_of.result % c.args.s ≡ stripe_of c.args.z c.args.s c.args.offset = rw c.unit_of.ensures in
+    (e, rw e (stripe_below c.args.z c.args.s c.args.offset c.requires.1))
 
 pub returns : goal.returns
 returns c = (omega (arith, (stripe c).0), omega (arith, (stripe c).1))

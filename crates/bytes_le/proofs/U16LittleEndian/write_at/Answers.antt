@@ -7,6 +7,5 @@ use Rattle.bytes_le.proofs.U16LittleEndian.write_at.Goals as goal
 
 pub returns : goal.returns
 returns c =
-    let n = c.args.self in
-    let e = c.copy_from_slice.ensures.after ∙ c.to_le_bytes.ensures ∙ u16_to n c.ranges.self.fits in
-    rw e (copied c.args.buffer.now (u16_bytes n) c.args.at 2 (u16_length n) c.requires)
+    let e = c.copy_from_slice.ensures.after ∙ c.to_le_bytes.ensures ∙ u16_to c.args.self c.ranges.self.fits in
+    rw e (copied c.args.buffer.now (u16_bytes c.args.self) c.args.at 2 (u16_length c.args.self) c.requires)

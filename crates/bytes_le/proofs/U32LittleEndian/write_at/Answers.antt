@@ -7,6 +7,5 @@ use Rattle.bytes_le.proofs.U32LittleEndian.write_at.Goals as goal
 
 pub returns : goal.returns
 returns c =
-    let n = c.args.self in
-    let e = c.copy_from_slice.ensures.after ∙ c.to_le_bytes.ensures ∙ u32_to n c.ranges.self.fits in
-    rw e (copied c.args.buffer.now (u32_bytes n) c.args.at 4 (u32_length n) c.requires)
+    let e = c.copy_from_slice.ensures.after ∙ c.to_le_bytes.ensures ∙ u32_to c.args.self c.ranges.self.fits in
+    rw e (copied c.args.buffer.now (u32_bytes c.args.self) c.args.at 4 (u32_length c.args.self) c.requires)

@@ -7,6 +7,5 @@ use Rattle.bytes_le.proofs.U64LittleEndian.write_at.Goals as goal
 
 pub returns : goal.returns
 returns c =
-    let n = c.args.self in
-    let e = c.copy_from_slice.ensures.after ∙ c.to_le_bytes.ensures ∙ u64_to n c.ranges.self.fits in
-    rw e (copied c.args.buffer.now (u64_bytes n) c.args.at 8 (u64_length n) c.requires)
+    let e = c.copy_from_slice.ensures.after ∙ c.to_le_bytes.ensures ∙ u64_to c.args.self c.ranges.self.fits in
+    rw e (copied c.args.buffer.now (u64_bytes c.args.self) c.args.at 8 (u64_length c.args.self) c.requires)

@@ -6,7 +6,7 @@ use Rattle.bytes_le.proofs.flags.only_first_bits.Goals as goal
 
 pub returns : goal.returns
 returns c =
-    let n = c.args.n in
-    let all : 16 - n + n ≡ 16 = omega (arith, c.requires) in
-    let mask : 65535 - (2 ^ n - 1) ≡ 65536 - 2 ^ n = omega (arith, pow_pos n) in
-    rw (one_shl n 16 c.requires, mask) (rw all at (mask_rest (16 - n) n c.args.flags (rw all c.ranges.flags.fits)))
+    let all : 16 - c.args.n + c.args.n ≡ 16 = omega (arith, c.requires) in
+    let mask : 65535 - (2 ^ c.args.n - 1) ≡ 65536 - 2 ^ c.args.n = omega (arith, pow_pos c.args.n) in
+    rw (one_shl c.args.n 16 c.requires, mask) (rw all at
+    (mask_rest (16 - c.args.n) c.args.n c.args.flags (rw all c.ranges.flags.fits)))

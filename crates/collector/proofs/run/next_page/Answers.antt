@@ -10,7 +10,8 @@ use Rattle.std.proofs.lemmas.List.{take_rest}
 use Rattle.bytes_le.specs.Numbers.{u16_at}
 use Rattle.collector.proofs.CutLaws.{listed_ended, listed_cut_lem, listed_long, listed_short, listed_next}
 use Rattle.collector.proofs.run.next_page.Goals as goal
-use Rattle.collector.proofs.run.next_page.Goals.{then-length-gt-MOST_LENGTH-via-then-length-gt-MOST_LENGTH, then-length-gt-MOST_LENGTH-via-else-length-gt-MOST_LENGTH+then-rest-length}
+use Rattle.collector.proofs.run.next_page.Goals.{then-length-gt-MOST_LENGTH-via-then-length-gt-MOST_LENGTH}
+use Rattle.collector.proofs.run.next_page.Goals.{then-length-gt-MOST_LENGTH-via-else-length-gt-MOST_LENGTH+then-rest-length}
 
 pub returns-then-is_empty : goal.returns-then-is_empty
 returns-then-is_empty c =

@@ -1,4 +1,5 @@
--- `collector::run::read_listed` meets its contract: the whole reading is the reading from the collector on, of the bytes that are left.
+-- `collector::run::read_listed` meets its contract: the whole reading is the reading from the collector on, of the
+-- bytes that are left.
 use Prim.Native.Nat.{◌-◌}
 use mathlib.Core.Path.{◌≡◌}
 use Rattle.collector.specs.Runs.{read_run, listed_cut}

@@ -14,7 +14,11 @@ returns-in-Some c =
     let os = c.args.objects.now in
     let e = sym c.in-Some.ensures.value in
     let h = slice_get_within os (length os - 1) c.in-Some.last.now e in
-    rw (ne_eqb (length os) 0 (λ z. omega arith), get_or_from_slice_get os (length os - 1) c.in-Some.last.now no_object e)
+    rw (
+      ne_eqb (length os) 0 (λ z. omega arith),
+      get_or_from_slice_get os (length os - 1) c.in-Some.last.now no_object
+          e,
+    )
 
 pub returns-in-None : goal.returns-in-None
 unfolding past_last

@@ -4,20 +4,19 @@ use Rattle.layout.specs.Rows.{number_of}
 use Rattle.free_table.specs.Choosing.{next_object}
 use Rattle.free_table.specs.ScanLaws.{among_all, none_past, past_all}
 use Rattle.free_table.proofs.raising.raised_in.Goals as goal
-use Rattle.free_table.proofs.raising.raised_in.Goals.{then-is_past-via-then-is_past, then-is_past-via-else-is_past+then-not-is_among}
+use Rattle.free_table.proofs.raising.raised_in.Goals.{then-is_past-via-then-is_past}
+use Rattle.free_table.proofs.raising.raised_in.Goals.{then-is_past-via-else-is_past+then-not-is_among}
 
 pub returns-then-is_past : goal.returns-then-is_past
 returns-then-is_past c =
-    let os = c.args.objects.now in
-    let r = c.args.r in
     elim c.then-is_past.branch [
       | then-is_past-via-then-is_past w ↦
-          rw (none_past os (next_object r) (past_all os r.target (sym c.is_past.ensures ∙ w.if-is_past.true) c.requires.1))
+          rw (none_past c.args.objects.now (next_object c.args.r)
+          (past_all c.args.objects.now c.args.r.target (sym c.is_past.ensures ∙ w.if-is_past.true) c.requires.1))
       | then-is_past-via-else-is_past+then-not-is_among w ↦ rw (← w.is_among.ensures, w.if-not-is_among.true)
     ]
 
 pub raised-requires : goal.raised-requires
 raised-requires c =
-    let os = c.args.objects.now in
     let e = sym c.is_among.ensures ∙ c.if-not-is_among.false in
-    omega (arith, among_all number_of 18446744073709551615 os c.requires.0 (next_object c.args.r) e)
+    omega (arith, among_all number_of 18446744073709551615 c.args.objects.now c.requires.0 (next_object c.args.r) e)

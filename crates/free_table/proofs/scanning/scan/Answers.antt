@@ -5,5 +5,5 @@ use Rattle.free_table.proofs.scanning.scan.Goals as goal
 
 pub see-s-requires : goal.see-s-requires
 see-s-requires c =
-    let a = c.args in
-    rw c.loop-r.invariant (fit_scanned a.asked (take c.loop-r.r-index (take a.asked.records a.table.now)) c.requires.0)
+    rw c.loop-r.invariant (fit_scanned c.args.asked (take c.loop-r.r-index (take c.args.asked.records c.args.table.now))
+    c.requires.0)

@@ -1,5 +1,5 @@
--- `free_table::scanning::targets_of` meets its contract: what all stores give is what the stores from i on give to the array
--- as it is.
+-- `free_table::scanning::targets_of` meets its contract: what all stores give is what the stores from i on give to the
+-- array as it is.
 use Rattle.std.proofs.Common.{◌≡◌, drop}
 use Rattle.std.proofs.lemmas.List.Edits.{sets}
 use Rattle.layout.specs.Rows.{targets_of}

@@ -9,14 +9,14 @@ use Rattle.free_table.proofs.scanning.tell_lows.Goals.{then-of-target, else-of-t
 
 pub loop-i-preserved : goal.loop-i-preserved
 loop-i-preserved c =
-    let a = c.args in
-    let i = c.loop-i.i in
-    let flags = lows_after a.of a.below (take i a.targets.now) a.low.now in
-    let next = lows_next a.of a.below a.targets.now a.low.now i c.loop-i-test.true (omega arith) in
+    let flags = lows_after c.args.of c.args.below (take c.loop-i.i c.args.targets.now) c.args.low.now in
+    let next = lows_next c.args.of c.args.below c.args.targets.now c.args.low.now c.loop-i.i c.loop-i-test.true
+    (omega arith) in
     elim c.if-of-target.branch [
       | then-of-target w ↦
-          w.low-is ∙ ap (λ (l : List Bool). set l i a.below) c.loop-i.invariant
+          w.low-is ∙ ap (λ (l : List Bool). set l c.loop-i.i c.args.below) c.loop-i.invariant
           ∙ rw (eq-eqb _ _ w.if-of-target.true) at next
       | else-of-target w ↦
-          w.low-is ∙ c.loop-i.invariant ∙ sym (set-get_or flags i false) ∙ rw (ne_eqb _ _ w.if-of-target.false) at next
+          w.low-is ∙ c.loop-i.invariant ∙ sym (set-get_or flags c.loop-i.i false)
+          ∙ rw (ne_eqb _ _ w.if-of-target.false) at next
     ]

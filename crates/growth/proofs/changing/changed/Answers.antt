@@ -8,9 +8,8 @@ use Rattle.growth.proofs.changing.changed.Goals as goal
 
 pub returns : goal.returns
 returns c =
-    let l = c.args.l in
-    let r = c.requires in
     c.pack.ensures
-    ∙ ap (λ (cs : List Component). packed (l.generation + 1) cs)
+    ∙ ap (λ (cs : List Component). packed (c.args.l.generation + 1) cs)
     (rw (c.planned_count.ensures, c.spliced-next.ensures)
-    (spliced_planned c.args.p l.components l.count (omega (arith, r.0)) r.1.within (omega (arith, r.2))))
+    (spliced_planned c.args.p c.args.l.components c.args.l.count (omega (arith, c.requires.0)) c.requires.1.within
+    (omega (arith, c.requires.2))))

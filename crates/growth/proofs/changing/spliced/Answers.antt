@@ -16,30 +16,34 @@ copied list new xs at k e n h = rw (e, n, sets-eq xs list at h, drop-drop, appen
 
 pub returns : goal.returns
 returns c =
-    let l = c.args.l in
-    let p = c.args.p in
-    let list = l.components in
-    let from = p.at + p.old in
+    let list = c.args.l.components in
+    let from = c.args.p.at + c.args.p.old in
     let cs = c.components.result.now in
-    let others = drop from (view l) in
+    let others = drop from (view c.args.l) in
     let cut : take (length cs - from) (drop from cs) ≡ others =
     take_rest cs from ∙ ap (λ (ds : List Component). drop from ds) c.components.ensures in
-    let m : length others ≡ l.count - from =
-    omega (arith, length-drop from (view l), length-take-le l.count list (omega (arith, c.requires))) in
+    let m : length others ≡ c.args.l.count - from =
+    omega (arith, length-drop from (view c.args.l), length-take-le c.args.l.count list (omega (arith, c.requires))) in
     let new = c.copy_from_slice.ensures.after ∙ cut in
-    let first = set list p.at p.made in
+    let first = set list c.args.p.at c.args.p.made in
     elim c.match-p.branch [
       | in-Some w ↦
-          let second = set first (p.at + 1) w.in-Some.left in
+          let second = set first (c.args.p.at + 1) w.in-Some.left in
           let few = rw w.in-Some.is at c.requires.2 in
           rw (w.next-is, w.after-is, w.in-Some.is)
-          (copied second _ others (p.at + 1 + 1) _ new (omega (arith, ap length cut))
-          (omega (arith, m, few, length-set list p.at p.made, length-set first (p.at + 1) w.in-Some.left))
+          (copied second _ others (c.args.p.at + 1 + 1) _ new (omega (arith, ap length cut))
+          (omega (
+            arith,
+            m,
+            few,
+            length-set list c.args.p.at c.args.p.made,
+            length-set first (c.args.p.at + 1) w.in-Some.left,
+          ))
           ∙ rw (add-one, add-one))
       | in_default w ↦
           let few = rw w.in_default.is at c.requires.2 in
           rw (w.next-is, w.after-is, w.in_default.is)
-          (copied first _ others (p.at + 1) _ new (omega (arith, ap length cut))
-          (omega (arith, m, few, length-set list p.at p.made))
+          (copied first _ others (c.args.p.at + 1) _ new (omega (arith, ap length cut))
+          (omega (arith, m, few, length-set list c.args.p.at c.args.p.made))
           ∙ rw add-one)
     ]

@@ -1,5 +1,5 @@
--- `growth::components::fresh_id` meets its contract: the id that is looked for is the first from `id` on, with as many looks
--- left as ids.
+-- `growth::components::fresh_id` meets its contract: the id that is looked for is the first from `id` on, with as many
+-- looks left as ids.
 use Rattle.std.specs.Prelude.{suc, ◌+◌, ◌-◌, ◌≡◌, length}
 use Rattle.std.proofs.Common.{sym, ◌∙◌, arith}
 use Rattle.std.proofs.lemmas.List.{length-map}

@@ -1,5 +1,5 @@
--- `growth::components::fresh_id` meets its contract: the id that is looked for is the first from `id` on, with as many looks
--- left as ids.
+-- `growth::components::fresh_id` meets its contract: the id that is looked for is the first from `id` on, with as many
+-- looks left as ids.
 use Rattle.std.proofs.Common.{◌≡◌, ◌-◌}
 use Rattle.layout.specs.Records.{ids_of}
 use Rattle.growth_rules.specs.Parts.{id_from, fresh_id}

@@ -26,19 +26,17 @@ meets_layout-requires c = (valid_facts c.args.l.now c.requires.0).few
 pub returns-then-planned_count-gt-MOST_COMPONENTS : goal.returns-then-planned_count-gt-MOST_COMPONENTS
 unfolding change_refusal
 returns-then-planned_count-gt-MOST_COMPONENTS c =
-    let l = c.args.l.now in
-    let p = c.args.p in
-    let k = counted l p c.planned_count.result c.requires.0 c.requires.1.within c.planned_count.ensures in
-    sym (rw (lt-ltb 16 (length (planned p (view l))) (omega arith)))
+    let k = counted c.args.l.now c.args.p c.planned_count.result c.requires.0 c.requires.1.within
+    c.planned_count.ensures in
+    sym (rw (lt-ltb 16 (length (planned c.args.p (view c.args.l.now))) (omega arith)))
 
 pub returns-then-meets_layout : goal.returns-then-meets_layout
 unfolding change_refusal
 returns-then-meets_layout c =
-    let l = c.args.l.now in
-    let p = c.args.p in
-    let k = counted l p c.planned_count.result c.requires.0 c.requires.1.within c.planned_count.ensures in
+    let k = counted c.args.l.now c.args.p c.planned_count.result c.requires.0 c.requires.1.within
+    c.planned_count.ensures in
     sym (rw (
-      le-ltb 16 (length (planned p (view l))) (omega arith),
+      le-ltb 16 (length (planned c.args.p (view c.args.l.now))) (omega arith),
       sym c.meets_layout.ensures ∙ c.if-meets_layout.true,
     ))
 
@@ -46,10 +44,9 @@ pub returns-then-l : goal.returns-then-l
 unfolding change_refusal
 returns-then-l c =
     let l = c.args.l.now in
-    let p = c.args.p in
-    let k = counted l p c.planned_count.result c.requires.0 c.requires.1.within c.planned_count.ensures in
+    let k = counted l c.args.p c.planned_count.result c.requires.0 c.requires.1.within c.planned_count.ensures in
     sym (rw (
-      le-ltb 16 (length (planned p (view l))) (omega arith),
+      le-ltb 16 (length (planned c.args.p (view l))) (omega arith),
       sym c.meets_layout.ensures ∙ c.if-meets_layout.false,
       eq-eqb l.generation 4294967295 c.if-l.true,
     ))
@@ -58,10 +55,9 @@ pub returns : goal.returns
 unfolding change_refusal
 returns c =
     let l = c.args.l.now in
-    let p = c.args.p in
-    let k = counted l p c.planned_count.result c.requires.0 c.requires.1.within c.planned_count.ensures in
+    let k = counted l c.args.p c.planned_count.result c.requires.0 c.requires.1.within c.planned_count.ensures in
     sym (rw (
-      le-ltb 16 (length (planned p (view l))) (omega arith),
+      le-ltb 16 (length (planned c.args.p (view l))) (omega arith),
       sym c.meets_layout.ensures ∙ c.if-meets_layout.false,
       ne_eqb l.generation 4294967295 c.if-l.false,
     ))

@@ -29,15 +29,15 @@ check-requires c = (c.requires.0, c.requires.2.within)
 pub returns-in_err-check : goal.returns-in_err-check
 unfolding grow_says
 returns-in_err-check c =
-    let a = c.args in
-    let k = call_of a.offset a.mark a.table.now in
+    let k = call_of c.args.offset c.args.mark c.args.table.now in
     let e = c.in_err-check.field-0.0 in
     let r : c.from_residual.result ≡ Err e = search rules in
-    let s : outcome_of a.l k (step_of a.l k) ≡ refusing a.l k (number_of e) =
-    ap (outcome_of a.l k) (step a.l k a.p c.requires.2)
-    ∙ change_refused a.l k (planned a.p (view a.l)) (planned_objects a.p) (number_of e) c.in_err-check.ensures
+    let s : outcome_of c.args.l k (step_of c.args.l k) ≡ refusing c.args.l k (number_of e) =
+    ap (outcome_of c.args.l k) (step c.args.l k c.args.p c.requires.2)
+    ∙ change_refused c.args.l k (planned c.args.p (view c.args.l)) (planned_objects c.args.p) (number_of e)
+    c.in_err-check.ensures
     (λ z. omega (arith, number_pos e)) in
-    subst (λ (o : Outcome). GrownSays a.l c.from_residual.result a.table.now o) (sym s)
+    subst (λ (o : Outcome). GrownSays c.args.l c.from_residual.result c.args.table.now o) (sym s)
     record { answer = rw r; layout = rw r; table = refl }
 
 -- Nothing refuses the change.
@@ -47,30 +47,26 @@ module _ (l : Layout) (k : Call) (p : Change) (n : 0 ≡ change_refusal l (plann
 
 pub changed-requires : goal.changed-requires
 changed-requires c =
-    let a = c.args in
-    let v = valid_facts a.l c.requires.0 in
-    let w = c.requires.2.within.within in
-    let k = free a.l (call_of a.offset a.mark a.table.now) a.p c.in_ok-check.ensures in
-    let n = planned_length a.p (view a.l) (omega (arith, w, v.whole)) in
-    (v.few, c.requires.2.within, omega (arith, n, k.few, v.whole, w), omega (arith, k.below))
+    let v = valid_facts c.args.l c.requires.0 in
+    let k = free c.args.l (call_of c.args.offset c.args.mark c.args.table.now) c.args.p c.in_ok-check.ensures in
+    let n = planned_length c.args.p (view c.args.l) (omega (arith, c.requires.2.within.within, v.whole)) in
+    (v.few, c.requires.2.within, omega (arith, n, k.few, v.whole, c.requires.2.within.within), omega (arith, k.below))
 
 pub accepted-requires : goal.accepted-requires
 accepted-requires c =
-    let a = c.args in
-    let r = c.requires in
-    let call = call_of a.offset a.mark a.table.now in
-    let k = free a.l call a.p c.in_ok-check.ensures in
+    let call = call_of c.args.offset c.args.mark c.args.table.now in
+    let k = free c.args.l call c.args.p c.in_ok-check.ensures in
     rw c.changed.ensures
-    (changed_valid a.l call r.0 r.1 (planned a.p (view a.l)) (planned_objects a.p) (step a.l call a.p r.2) k.few k.apart)
+    (changed_valid c.args.l call c.requires.0 c.requires.1 (planned c.args.p (view c.args.l)) (planned_objects c.args.p)
+    (step c.args.l call c.args.p c.requires.2) k.few k.apart)
 
 pub returns : goal.returns
 unfolding grow_says
 returns c =
-    let a = c.args in
-    let call = call_of a.offset a.mark a.table.now in
-    let k = free a.l call a.p c.in_ok-check.ensures in
-    let e = ap (outcome_of a.l call) (step a.l call a.p c.requires.2) ∙ k.gives in
-    subst (λ (o : Outcome). GrownSays a.l (Ok c.accepted.result) c.raise.new.table o) (sym e)
+    let call = call_of c.args.offset c.args.mark c.args.table.now in
+    let k = free c.args.l call c.args.p c.in_ok-check.ensures in
+    let e = ap (outcome_of c.args.l call) (step c.args.l call c.args.p c.requires.2) ∙ k.gives in
+    subst (λ (o : Outcome). GrownSays c.args.l (Ok c.accepted.result) c.raise.new.table o) (sym e)
     record {
       answer = rw (c.accepted.ensures, c.changed.ensures);
       layout = rw (c.accepted.ensures, c.changed.ensures);

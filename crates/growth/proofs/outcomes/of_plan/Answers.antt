@@ -10,8 +10,8 @@ use Rattle.growth.proofs.outcomes.of_plan.Goals as goal
 pub returns-in-None : goal.returns-in-None
 unfolding grow_says plan_says outcome_of
 returns-in-None c =
-    let a = c.args in
-    let k = call_of a.offset a.mark a.table.now in
-    let step : step_of a.l k ≡ stays = sym (rw c.in-None.is at c.requires.2.says) in
-    subst (λ (o : Outcome). GrownSays a.l (Ok c.accepted.result) a.table.now o) (sym (ap (outcome_of a.l k) step))
+    let k = call_of c.args.offset c.args.mark c.args.table.now in
+    let step : step_of c.args.l k ≡ stays = sym (rw c.in-None.is at c.requires.2.says) in
+    subst (λ (o : Outcome). GrownSays c.args.l (Ok c.accepted.result) c.args.table.now o)
+    (sym (ap (outcome_of c.args.l k) step))
     record { answer = rw c.accepted.ensures; layout = rw c.accepted.ensures; table = refl }

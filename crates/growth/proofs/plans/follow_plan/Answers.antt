@@ -9,22 +9,19 @@ use Rattle.growth.proofs.plans.follow_plan.Goals as goal
 pub returns-in-empty : goal.returns-in-empty
 unfolding follow_plan
 returns-in-empty c =
-    let a = c.args in
-    let none : a.after.now ≡ [] = drop_of_length-le a.after.now {i = 0} (omega arith) in
-    c.replacing.ensures ∙ sym (ap (follow_plan a.j a.m) none)
+    let none : c.args.after.now ≡ [] = drop_of_length-le c.args.after.now {i = 0} (omega arith) in
+    c.replacing.ensures ∙ sym (ap (follow_plan c.args.j c.args.m) none)
 
 pub returns-then-y : goal.returns-then-y
 unfolding follow_plan
 returns-then-y c =
-    let a = c.args in
-    let some : a.after.now ≡ get_or a.after.now 0 unread ∷ drop 1 a.after.now =
-    drop_more a.after.now 0 unread c.in-len1-up.len_at_least in
-    c.granting.ensures ∙ sym (ap (follow_plan a.j a.m) some ∙ rw c.if-y.true)
+    let some : c.args.after.now ≡ get_or c.args.after.now 0 unread ∷ drop 1 c.args.after.now =
+    drop_more c.args.after.now 0 unread c.in-len1-up.len_at_least in
+    c.granting.ensures ∙ sym (ap (follow_plan c.args.j c.args.m) some ∙ rw c.if-y.true)
 
 pub returns-else-y : goal.returns-else-y
 unfolding follow_plan
 returns-else-y c =
-    let a = c.args in
-    let some : a.after.now ≡ get_or a.after.now 0 unread ∷ drop 1 a.after.now =
-    drop_more a.after.now 0 unread c.in-len1-up.len_at_least in
-    c.replacing-else-y.ensures ∙ sym (ap (follow_plan a.j a.m) some ∙ rw c.if-y.false)
+    let some : c.args.after.now ≡ get_or c.args.after.now 0 unread ∷ drop 1 c.args.after.now =
+    drop_more c.args.after.now 0 unread c.in-len1-up.len_at_least in
+    c.replacing-else-y.ensures ∙ sym (ap (follow_plan c.args.j c.args.m) some ∙ rw c.if-y.false)

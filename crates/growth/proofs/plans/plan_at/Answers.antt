@@ -41,57 +41,63 @@ components-components-requires c = (valid_facts c.args.l.now c.requires.0).few
 
 pub bounds-components-i : goal.bounds-components-i
 bounds-components-i c =
-    omega (arith, (valid_facts c.args.l.now c.requires.0).whole, ap length c.components-components.ensures, c.requires.1)
+    omega (
+      arith,
+      (valid_facts c.args.l.now c.requires.0).whole,
+      ap length c.components-components.ensures,
+      c.requires.1,
+    )
 
 pub offset_bounds-components-i : goal.offset_bounds-components-i
 offset_bounds-components-i c = omega (arith, (valid_facts c.args.l.now c.requires.0).few, c.requires.1)
 
 pub held_plan-requires : goal.held_plan-requires
 held_plan-requires c =
-    let l = c.args.l.now in
-    few l (valid_facts l c.requires.0) _ c.components-components.ensures c.args.i c.requires.1
+    few c.args.l.now (valid_facts c.args.l.now c.requires.0) _ c.components-components.ensures c.args.i c.requires.1
 
 pub returns-then-not-c : goal.returns-then-not-c
 returns-then-not-c c =
-    let a = c.args in
-    let l = a.l.now in
-    let same = read l (valid_facts l c.requires.0) _ c.components-components.ensures a.i c.requires.1 in
-    c.held_plan.ensures ∙ ap (held_plan a.mark a.table.now a.i) same
-    ∙ sym (at_other a.mark a.table.now a.i (view l)
+    let l = c.args.l.now in
+    let same = read l (valid_facts l c.requires.0) _ c.components-components.ensures c.args.i c.requires.1 in
+    c.held_plan.ensures ∙ ap (held_plan c.args.mark c.args.table.now c.args.i) same
+    ∙ sym (at_other c.args.mark c.args.table.now c.args.i (view l)
     (ap (λ (d : Component). d.extension) (sym same) ∙ not-true _ c.if-not-c.true))
 
 pub overflow_sub-i : goal.overflow_sub-i
 overflow_sub-i c =
-    let l = c.args.l.now in
     let k =
-    not_first l (valid_facts l c.requires.0) _ c.components-components.ensures c.args.i c.requires.1
+    not_first c.args.l.now (valid_facts c.args.l.now c.requires.0) _ c.components-components.ensures c.args.i
+    c.requires.1
     (not-false _ c.if-not-c.false) in
     omega (arith, k)
 
 pub extension_plan-requires : goal.extension_plan-requires
 extension_plan-requires c =
-    let l = c.args.l.now in
-    let v = valid_facts l c.requires.0 in
-    let e = c.components-components.ensures in
-    let k = not_first l v _ e c.args.i c.requires.1 (not-false _ c.if-not-c.false) in
-    rw e (omega (arith, v.few, v.whole), omega (arith, k, v.whole, c.requires.1), v.keeps.fields)
+    let v = valid_facts c.args.l.now c.requires.0 in
+    let k = not_first c.args.l.now v _ c.components-components.ensures c.args.i c.requires.1
+    (not-false _ c.if-not-c.false) in
+    rw c.components-components.ensures (
+      omega (arith, v.few, v.whole),
+      omega (arith, k, v.whole, c.requires.1),
+      v.keeps.fields,
+    )
 
 -- The plan of an extension.
 pub returns-in_err-change : goal.returns-in_err-change
 returns-in_err-change c =
-    let a = c.args in
-    let l = a.l.now in
-    let e = c.components-components.ensures in
+    let l = c.args.l.now in
     let x =
-    is_extension_lem l (valid_facts l c.requires.0) _ e a.i c.requires.1 (not-false _ c.if-not-c.false) in
+    is_extension_lem l (valid_facts l c.requires.0) _ c.components-components.ensures c.args.i c.requires.1
+    (not-false _ c.if-not-c.false) in
     let r : c.from_residual.result ≡ Err c.in_err-change.field-0.0 = search rules in
-    r ∙ ap plan_of (rw e at c.in_err-change.ensures) ∙ sym (at_extension a.mark a.table.now a.i (view l) x)
+    r ∙ ap plan_of (rw c.components-components.ensures at c.in_err-change.ensures)
+    ∙ sym (at_extension c.args.mark c.args.table.now c.args.i (view l) x)
 
 pub returns : goal.returns
 returns c =
-    let a = c.args in
-    let l = a.l.now in
-    let e = c.components-components.ensures in
+    let l = c.args.l.now in
     let x =
-    is_extension_lem l (valid_facts l c.requires.0) _ e a.i c.requires.1 (not-false _ c.if-not-c.false) in
-    ap plan_of (rw e at c.in_ok-change.ensures) ∙ sym (at_extension a.mark a.table.now a.i (view l) x)
+    is_extension_lem l (valid_facts l c.requires.0) _ c.components-components.ensures c.args.i c.requires.1
+    (not-false _ c.if-not-c.false) in
+    ap plan_of (rw c.components-components.ensures at c.in_ok-change.ensures)
+    ∙ sym (at_extension c.args.mark c.args.table.now c.args.i (view l) x)

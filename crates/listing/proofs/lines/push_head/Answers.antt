@@ -5,10 +5,9 @@ use Rattle.listing.proofs.lines.push_head.Goals as goal
 
 pub returns-clause-value : goal.returns-clause-value
 returns-clause-value c =
-    let a = c.args in
     rw (
-      ← printed-decimal a.generation (omega arith),
-      ← printed-decimal a.count c.ranges.count.fits,
+      ← printed-decimal c.args.generation (omega arith),
+      ← printed-decimal c.args.count c.ranges.count.fits,
       c.push_number-2.ensures.value,
       c.push_number.ensures.value,
       c.push_str.ensures.bytes,

@@ -5,11 +5,10 @@ use Rattle.listing.proofs.lines.push_refused.Goals as goal
 
 pub returns : goal.returns
 returns c =
-    let a = c.args in
     rw (
       ← c.number.ensures,
       ← printed-decimal c.number.result (omega (arith, c.number.type_inv)),
-      ← printed-decimal a.page c.ranges.page.fits,
+      ← printed-decimal c.args.page c.ranges.page.fits,
       c.push_number-2.ensures.value,
       c.push_number.ensures.value,
       c.push_str.ensures.bytes,

@@ -7,15 +7,14 @@ use Rattle.mapping.proofs.cutting.part_count.Goals as goal
 
 pub returns-then-not-c : goal.returns-then-not-c
 returns-then-not-c c =
-    let a = c.args in
-    let off : a.c.init ≡ false = not-true a.c.init c.if-not-c.true in
-    (sym (part_not_init a.request.offset a.request.stop a.c off), omega arith)
+    let off : c.args.c.init ≡ false = not-true c.args.c.init c.if-not-c.true in
+    (sym (part_not_init c.args.request.offset c.args.request.stop c.args.c off), omega arith)
 
 pub unit_count-requires : goal.unit_count-requires
 unit_count-requires c = (c.requires (not-false c.args.c.init c.if-not-c.false)).0
 
 pub returns : goal.returns
 returns c =
-    let a = c.args in
-    let units = part_init a.request.offset a.request.stop a.c (not-false a.c.init c.if-not-c.false) in
+    let units = part_init c.args.request.offset c.args.request.stop c.args.c (not-false c.args.c.init c.if-not-c.false)
+    in
     (rw (← units, ← c.part-part.ensures.0, ← c.part-part.ensures.1) c.unit_count.ensures.0, c.unit_count.ensures.1)

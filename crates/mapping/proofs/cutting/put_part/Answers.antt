@@ -9,9 +9,9 @@ use Rattle.mapping.proofs.cutting.put_part.Goals as goal
 
 pub returns-then-part : goal.returns-then-part
 returns-then-part c =
-    let a = c.args in
-    let units = part_init a.request.offset a.request.stop a.c (not-false a.c.init c.if-not-c.false) in
-    let none : part_count a.request.offset a.request.stop a.c ≡ 0
+    let units = part_init c.args.request.offset c.args.request.stop c.args.c (not-false c.args.c.init c.if-not-c.false)
+    in
+    let none : part_count c.args.request.offset c.args.request.stop c.args.c ≡ 0
     = rw (← units, ← c.part-part.ensures.0, ← c.part-part.ensures.1)
-    (unit_count_none a.c.stripe_size _ _ c.if-part.true) in
-    (part_none a.request.offset a.request.stop a.c a.room.now a.at none, omega arith)
+    (unit_count_none c.args.c.stripe_size _ _ c.if-part.true) in
+    (part_none c.args.request.offset c.args.request.stop c.args.c c.args.room.now c.args.at none, omega arith)

@@ -10,27 +10,25 @@ use Rattle.mapping.proofs.objects.byte_within.Goals as goal
 pub returns-in_err-byte : goal.returns-in_err-byte
 unfolding back_says
 returns-in_err-byte c =
-    let x = c.args.c in
-    let b = file_byte x.stripe_size x.stripe_count c.args.i c.args.p in
+    let b = file_byte c.args.c.stripe_size c.args.c.stripe_count c.args.i c.args.p in
     let r : c.from_residual.result ≡ Err Hidden = search rules in
-    let past = below_none x.stripe_size x.stripe_count c.args.i c.args.p
+    let past = below_none c.args.c.stripe_size c.args.c.stripe_count c.args.i c.args.p
     (sym c.file_byte.ensures ∙ c.in_err-byte.ensures.ok_part) in
-    rw r (sym (outside_refused x.begin x.end b (λ h k w. omega (arith, past))))
+    rw r (sym (outside_refused c.args.c.begin c.args.c.end b (λ h k w. omega (arith, past))))
 
 pub returns-then-byte-c : goal.returns-then-byte-c
 unfolding back_says
 returns-then-byte-c c =
-    let x = c.args.c in
-    let b = file_byte x.stripe_size x.stripe_count c.args.i c.args.p in
-    let f = below_some x.stripe_size x.stripe_count c.args.i c.args.p c.in_ok-byte.byte
+    let b = file_byte c.args.c.stripe_size c.args.c.stripe_count c.args.i c.args.p in
+    let f = below_some c.args.c.stripe_size c.args.c.stripe_count c.args.i c.args.p c.in_ok-byte.byte
     (sym c.file_byte.ensures ∙ c.in_ok-byte.ensures.ok_part) in
-    sym (outside_refused x.begin x.end b (λ h k w. omega (arith, f.0)))
+    sym (outside_refused c.args.c.begin c.args.c.end b (λ h k w. omega (arith, f.0)))
 
 pub returns : goal.returns
 unfolding back_says
 returns c =
-    let x = c.args.c in
-    let b = file_byte x.stripe_size x.stripe_count c.args.i c.args.p in
-    let f = below_some x.stripe_size x.stripe_count c.args.i c.args.p c.in_ok-byte.byte
+    let b = file_byte c.args.c.stripe_size c.args.c.stripe_count c.args.i c.args.p in
+    let f = below_some c.args.c.stripe_size c.args.c.stripe_count c.args.i c.args.p c.in_ok-byte.byte
     (sym c.file_byte.ensures ∙ c.in_ok-byte.ensures.ok_part) in
-    rw f.0 (sym (inside_given x.begin x.end b (omega (arith, f.0)) (omega (arith, f.0)) (omega (arith, f))))
+    rw f.0 (sym (inside_given c.args.c.begin c.args.c.end b (omega (arith, f.0)) (omega (arith, f.0))
+    (omega (arith, f))))

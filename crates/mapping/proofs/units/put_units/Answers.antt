@@ -12,8 +12,7 @@ loop-left-init c = (
 
 pub put_piece-requires : goal.put_piece-requires
 put_piece-requires c =
-    let h = c.requires in
-    one_more h.0 h.1 c.loop-left.invariant.0 c.loop-left.invariant.1 h.3
+    one_more c.requires.0 c.requires.1 c.loop-left.invariant.0 c.loop-left.invariant.1 c.requires.3
 
 pub overflow_add-stripe : goal.overflow_add-stripe
 overflow_add-stripe c = omega (arith, stripe_less c.requires.0 c.requires.1 c.loop-left.invariant.0)
@@ -22,30 +21,26 @@ pub overflow_add-row : goal.overflow_add-row
 overflow_add-row c = omega (arith, row_end c.requires.0 c.requires.1 c.loop-left.invariant.0)
 
 pub loop-left-preserved-then-stripe-count : goal.loop-left-preserved-then-stripe-count
-loop-left-preserved-then-stripe-count c =
-    let h = c.requires in
-    let k = c.loop-left.invariant.0 in (
-      after_last h.0 h.1 k c.if-stripe-count.true refl refl,
-      written_next h.0 h.1 k c.loop-left.invariant.1 c.loop-left-test.true refl refl c.put_piece.auto.room
-          c.put_piece.ensures,
-    )
+loop-left-preserved-then-stripe-count c = (
+  after_last c.requires.0 c.requires.1 c.loop-left.invariant.0 c.if-stripe-count.true refl refl,
+  written_next c.requires.0 c.requires.1 c.loop-left.invariant.0 c.loop-left.invariant.1 c.loop-left-test.true refl
+      refl c.put_piece.auto.room
+      c.put_piece.ensures,
+)
 
 pub loop-left-preserved : goal.loop-left-preserved
-loop-left-preserved c =
-    let h = c.requires in
-    let k = c.loop-left.invariant.0 in (
-      after_other h.0 h.1 k c.if-stripe-count.false refl refl,
-      written_next h.0 h.1 k c.loop-left.invariant.1 c.loop-left-test.true refl refl c.put_piece.auto.room
-          c.put_piece.ensures,
-    )
+loop-left-preserved c = (
+  after_other c.requires.0 c.requires.1 c.loop-left.invariant.0 c.if-stripe-count.false refl refl,
+  written_next c.requires.0 c.requires.1 c.loop-left.invariant.0 c.loop-left.invariant.1 c.loop-left-test.true refl
+      refl c.put_piece.auto.room
+      c.put_piece.ensures,
+)
 
 pub put_piece-requires-2 : goal.put_piece-requires-2
 put_piece-requires-2 c =
-    let h = c.requires in
-    one_more h.0 h.1 c.loop-left.invariant.0 c.loop-left.invariant.1 h.3
+    one_more c.requires.0 c.requires.1 c.loop-left.invariant.0 c.loop-left.invariant.1 c.requires.3
 
 pub returns : goal.returns
 returns c =
-    let h = c.requires in
-    written_last h.0 h.1 c.loop-left.invariant.0 c.loop-left.invariant.1 c.loop-left-test.false refl
+    written_last c.requires.0 c.requires.1 c.loop-left.invariant.0 c.loop-left.invariant.1 c.loop-left-test.false refl
     c.put_piece-2.ensures

@@ -11,27 +11,26 @@ use Rattle.mapping.proofs.units.unit_count.Goals as goal
 
 pub returns-then-to-from : goal.returns-then-to-from
 returns-then-to-from c =
-    let a = c.args in
-    (sym (unit_count_none a.z a.from a.to c.if-to-from.true), search rules)
+    (sym (unit_count_none c.args.z c.args.from c.args.to c.if-to-from.true), search rules)
 
 pub returns-then-to_last-size : goal.returns-then-to_last-size
 returns-then-to_last-size c =
-    let a = c.args in
-    let h : a.to ≤ unit_end a.z a.from = omega (arith, unit_end_lem a.z a.from (omega arith)) in
-    (sym (unit_count_last a.z a.from a.to (omega arith) (omega arith) h), search rules)
+    let h : c.args.to ≤ unit_end c.args.z c.args.from =
+    omega (arith, unit_end_lem c.args.z c.args.from (omega arith)) in
+    (sym (unit_count_last c.args.z c.args.from c.args.to (omega arith) (omega arith) h), search rules)
 
 pub overflow_add-result : goal.overflow_add-result
 overflow_add-result c = omega (arith, mod-le c.args.from c.args.z)
 
 -- The number of units, by the division, and its bound.
-units : (c : goal.Else-to_last-size) → let a = c.args in
-    ((a.from % a.z + (a.to - a.from - 1)) / a.z + 1 ≡ unit_count a.z a.from a.to)
-    × (unit_count a.z a.from a.to ≤ 2 ^ 48)
-units c =
-    let a = c.args in (
-      sym (unit_count_within a.z a.from a.to (omega arith) (omega arith)),
-      unit_count_bound a.z a.from a.to c.requires (omega arith),
-    )
+units : (c : goal.Else-to_last-size) →
+    ((c.args.from % c.args.z + (c.args.to - c.args.from - 1)) / c.args.z + 1
+    ≡ unit_count c.args.z c.args.from c.args.to)
+    × (unit_count c.args.z c.args.from c.args.to ≤ 2 ^ 48)
+units c = (
+  sym (unit_count_within c.args.z c.args.from c.args.to (omega arith) (omega arith)),
+  unit_count_bound c.args.z c.args.from c.args.to c.requires (omega arith),
+)
 
 pub overflow_add-result-2 : goal.overflow_add-result-2
 overflow_add-result-2 c = omega (arith, (units c).0, (units c).1)

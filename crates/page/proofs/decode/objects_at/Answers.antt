@@ -11,12 +11,10 @@ loop-i-init c = rw (sub-zero, add-zero)
 
 pub loop-i-preserved : goal.loop-i-preserved
 loop-i-preserved c =
-    let a = c.args in
-    let e = objects_at_turn a.s.now a.at a.n c.loop-i.i c.loop-i-test.true in
+    let e = objects_at_turn c.args.s.now c.args.at c.args.n c.loop-i.i c.loop-i-test.true in
     c.loop-i.invariant ∙ rw (e, ← c.object_at.ensures, add-one)
 
 pub returns : goal.returns
 unfolding pack_objects
 returns c =
-    let a = c.args in
-    sym (c.loop-i.invariant ∙ rw (objects_at_done a.s.now a.at a.n c.loop-i.i c.loop-i-test.false))
+    sym (c.loop-i.invariant ∙ rw (objects_at_done c.args.s.now c.args.at c.args.n c.loop-i.i c.loop-i-test.false))

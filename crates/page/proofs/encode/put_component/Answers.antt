@@ -4,6 +4,8 @@ use Rattle.page.proofs.Stores.{component_stored}
 use Rattle.page.proofs.encode.put_component.Goals as goal
 
 pub returns : goal.returns
-returns c =
-    let a = c.args in
-    (omega arith, rw (c.put_objects.ensures, c.put_fields.ensures, c.objects.ensures) (component_stored a.buffer.now a.at a.c.now))
+returns c = (
+  omega arith,
+  rw (c.put_objects.ensures, c.put_fields.ensures, c.objects.ensures)
+      (component_stored c.args.buffer.now c.args.at c.args.c.now),
+)

@@ -6,8 +6,7 @@ use Rattle.page.proofs.encode.put_fields.Goals as goal
 
 pub returns : goal.returns
 returns c =
-    let a = c.args in
-    let signed = to_z-of_z {w = w32} {z = a.c.now.first_target} (search rules) in
+    let signed = to_z-of_z {w = w32} {z = c.args.c.now.first_target} (search rules) in
     rw (
       c.write_at-9.ensures,
       c.write_at-8.ensures,
@@ -20,4 +19,4 @@ returns c =
       c.write_at.ensures,
       signed,
     )
-    (fields_stored a.buffer.now a.at a.c.now c.word-word.result c.word-word.ensures)
+    (fields_stored c.args.buffer.now c.args.at c.args.c.now c.word-word.result c.word-word.ensures)

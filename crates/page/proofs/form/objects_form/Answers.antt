@@ -12,8 +12,7 @@ use Rattle.page.proofs.form.objects_form.Goals as goal
 
 pub returns : goal.returns
 returns c =
-    let s = c.args.s.now in
-    let at = c.args.at in
-    every-all (λ i. object_form s (at + 16 * i)) _ _ _ c.all.ensures.ran (YieldsList-from_range 0 c.args.n c.args.n refl (omega arith))
+    every-all (λ i. object_form c.args.s.now (c.args.at + 16 * i)) _ _ _ c.all.ensures.ran
+    (YieldsList-from_range 0 c.args.n c.args.n refl (omega arith))
     (λ x b q k. search (rules, tests))
-    ∙ objects_form_every s at c.args.n
+    ∙ objects_form_every c.args.s.now c.args.at c.args.n

@@ -13,9 +13,10 @@ use Rattle.page.proofs.form.walk_page.Goals as goal
 pub returns-then-s-le-MOST_BYTES : goal.returns-then-s-le-MOST_BYTES
 returns-then-s-le-MOST_BYTES c =
     let s = c.args.s.now in
-    let h : length s ≤ 512 = omega arith in
-    let w = c.walk.ensures in
-    (c.eq.ensures ∙ page_told s h _ _ c.walk.result w, page_walked s h _ _ c.walk.result w c.requires)
+    let h : length s ≤ 512 = omega arith in (
+      c.eq.ensures ∙ page_told s h _ _ c.walk.result c.walk.ensures,
+      page_walked s h _ _ c.walk.result c.walk.ensures c.requires,
+    )
 
 pub returns-else-s-le-MOST_BYTES : goal.returns-else-s-le-MOST_BYTES
 returns-else-s-le-MOST_BYTES c =

@@ -6,5 +6,4 @@ use Rattle.placed_mapping.proofs.PlacedComponents.end.Goals as goal
 pub returns : goal.returns
 unfolding component_at
 returns c =
-    let s = c.args.self.now in
-    rw (component_placed s.pages.now s.places.now c.args.i c.requires) c.read_at.ensures
+    rw (component_placed c.args.self.now.pages.now c.args.self.now.places.now c.args.i c.requires) c.read_at.ensures

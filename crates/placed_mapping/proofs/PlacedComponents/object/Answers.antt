@@ -7,15 +7,13 @@ use Rattle.placed_mapping.proofs.PlacedComponents.object.Goals as goal
 pub object_at-requires : goal.object_at-requires
 object_at-requires c =
     let s = c.args.self.now in
-    let i = c.args.i in
-    let within = component_within s.pages.now s.places.now i c.requires.place s.valid in
-    let stands = rw (component_placed s.pages.now s.places.now i c.requires.place) at c.requires.stripe in
-    omega (arith, within, record_within s.pages.now (get_or s.places.now i 0) c.args.stripe stands)
+    let within = component_within s.pages.now s.places.now c.args.i c.requires.place s.valid in
+    let stands = rw (component_placed s.pages.now s.places.now c.args.i c.requires.place) at c.requires.stripe in
+    omega (arith, within, record_within s.pages.now (get_or s.places.now c.args.i 0) c.args.stripe stands)
 
 pub returns : goal.returns
 returns c =
     let s = c.args.self.now in
-    let i = c.args.i in
-    let stands = rw (component_placed s.pages.now s.places.now i c.requires.place) at c.requires.stripe in
-    rw (component_placed s.pages.now s.places.now i c.requires.place)
-    (c.object_at.ensures ∙ sym (record_placed s.pages.now (get_or s.places.now i 0) c.args.stripe stands))
+    let stands = rw (component_placed s.pages.now s.places.now c.args.i c.requires.place) at c.requires.stripe in
+    rw (component_placed s.pages.now s.places.now c.args.i c.requires.place)
+    (c.object_at.ensures ∙ sym (record_placed s.pages.now (get_or s.places.now c.args.i 0) c.args.stripe stands))

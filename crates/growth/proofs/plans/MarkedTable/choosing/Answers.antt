@@ -9,20 +9,16 @@ use Rattle.growth.proofs.plans.MarkedTable.choosing.Goals as goal
 pub returns-then-choice-s : goal.returns-then-choice-s
 unfolding choosing_plan
 returns-then-choice-s c =
-    let a = c.args in
-    let s = a.p.made.stripe_count in
-    let x = c.choose-choice in
-    let os = chosen (usable a.self.mark) s a.self.table.now in
-    let n : x.result.count ≡ length os = ap (λ (y : Choice). y.count) x.ensures.0 in
-    rw (ne_eqb (length os) s (λ e. c.if-choice-s.true (n ∙ e)))
+    let os = chosen (usable c.args.self.mark) c.args.p.made.stripe_count c.args.self.table.now in
+    let n : c.choose-choice.result.count ≡ length os = ap (λ (y : Choice). y.count) c.choose-choice.ensures.0 in
+    rw (ne_eqb (length os) c.args.p.made.stripe_count (λ e. c.if-choice-s.true (n ∙ e)))
 
 pub returns : goal.returns
 unfolding choosing_plan
 returns c =
-    let a = c.args in
-    let s = a.p.made.stripe_count in
+    let s = c.args.p.made.stripe_count in
     let x = c.choose-choice in
-    let os = chosen (usable a.self.mark) s a.self.table.now in
+    let os = chosen (usable c.args.self.mark) s c.args.self.table.now in
     let n : length os ≡ s = sym (ap (λ (y : Choice). y.count) x.ensures.0) ∙ c.if-choice-s.false in
     let o : x.result.items ≡ pack_objects os = ap (λ (y : Choice). y.items) x.ensures.0 in
     rw (c.init_with.ensures, o, eq-eqb (length os) s n, n)

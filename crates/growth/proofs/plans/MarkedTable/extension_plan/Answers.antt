@@ -34,30 +34,26 @@ choosing-requires c =
 
 pub returns-then-not-c : goal.returns-then-not-c
 returns-then-not-c c =
-    let a = c.args in
     c.choosing.ensures
     ∙ rw c.granting-grant.ensures
-    (sym (extension_chooses a.self.mark a.self.table.now _ a.j _ _ _ c.if-not-c.true))
-    ∙ asked a.components.now a.j a.self.mark a.self.table.now c.requires.1
+    (sym (extension_chooses c.args.self.mark c.args.self.table.now _ c.args.j _ _ _ c.if-not-c.true))
+    ∙ asked c.args.components.now c.args.j c.args.self.mark c.args.self.table.now c.requires.1
 
 pub returns-then-not-any_low : goal.returns-then-not-any_low
 returns-then-not-any_low c =
-    let a = c.args in
     ap Ok c.granting-grant.ensures
-    ∙ sym (extension_grants a.self.mark a.self.table.now _ a.j _ _ _ c.if-not-c.false
+    ∙ sym (extension_grants c.args.self.mark c.args.self.table.now _ c.args.j _ _ _ c.if-not-c.false
     (rw (← c.objects.ensures) (sym c.any_low.ensures ∙ c.if-not-any_low.true)))
-    ∙ asked a.components.now a.j a.self.mark a.self.table.now c.requires.1
+    ∙ asked c.args.components.now c.args.j c.args.self.mark c.args.self.table.now c.requires.1
 
 pub low_plan-requires : goal.low_plan-requires
 low_plan-requires c =
-    let r = c.requires in
-    let few = kind_few (kind_at c.args.components.now r.2 unread c.args.j (omega (arith, r.1))) in
-    (r.0, r.1, r.2, few)
+    let few = kind_few (kind_at c.args.components.now c.requires.2 unread c.args.j (omega (arith, c.requires.1))) in
+    (c.requires.0, c.requires.1, c.requires.2, few)
 
 pub returns : goal.returns
 returns c =
-    let a = c.args in
     c.low_plan.ensures
-    ∙ sym (extension_low a.self.mark a.self.table.now _ a.j _ _ _ c.if-not-c.false
+    ∙ sym (extension_low c.args.self.mark c.args.self.table.now _ c.args.j _ _ _ c.if-not-c.false
     (rw (← c.objects.ensures) (sym c.any_low.ensures ∙ c.if-not-any_low.false)))
-    ∙ asked a.components.now a.j a.self.mark a.self.table.now c.requires.1
+    ∙ asked c.args.components.now c.args.j c.args.self.mark c.args.self.table.now c.requires.1

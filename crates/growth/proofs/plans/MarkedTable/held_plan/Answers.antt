@@ -8,8 +8,7 @@ use Rattle.growth.proofs.plans.MarkedTable.held_plan.Goals.{then-c-via-then-c, t
 
 pub returns-then-c : goal.returns-then-c
 returns-then-c c =
-    let a = c.args in
-    sym (held_stays a.self.mark a.self.table.now a.i a.c
+    sym (held_stays c.args.self.mark c.args.self.table.now c.args.i c.args.c
     (elim c.then-c.branch [
       | then-c-via-then-c w ↦ rw w.if-c.true
       | then-c-via-else-c+then-c-2 w ↦ rw (w.if-c.false, w.if-c-2.true)
@@ -17,13 +16,11 @@ returns-then-c c =
 
 pub returns-in_err-change : goal.returns-in_err-change
 returns-in_err-change c =
-    let a = c.args in
     let r : c.from_residual.result ≡ Err c.in_err-change.field-0.0 = search rules in
     r ∙ ap plan_of (rw c.replacing.ensures at c.in_err-change.ensures)
-    ∙ sym (held_chooses a.self.mark a.self.table.now a.i a.c (rw (c.if-c.false, c.if-c-2.false)))
+    ∙ sym (held_chooses c.args.self.mark c.args.self.table.now c.args.i c.args.c (rw (c.if-c.false, c.if-c-2.false)))
 
 pub returns : goal.returns
 returns c =
-    let a = c.args in
     ap plan_of (rw c.replacing.ensures at c.in_ok-change.ensures)
-    ∙ sym (held_chooses a.self.mark a.self.table.now a.i a.c (rw (c.if-c.false, c.if-c-2.false)))
+    ∙ sym (held_chooses c.args.self.mark c.args.self.table.now c.args.i c.args.c (rw (c.if-c.false, c.if-c-2.false)))

@@ -21,21 +21,19 @@ spill_plan-requires c =
 pub returns-in-empty : goal.returns-in-empty
 unfolding low_plan
 returns-in-empty c =
-    let a = c.args in
-    let cs = a.components.now in
-    let k = a.j + 2 in
+    let cs = c.args.components.now in
+    let k = c.args.j + 2 in
     let none : drop k cs ≡ [] =
     drop_of_length-le cs (omega (arith, length-take (length cs - k) (drop k cs), length-drop k cs)) in
     ap Ok (c.repeat_plan.ensures ∙ rw c.fresh_id.ensures)
-    ∙ sym (ap (low_plan a.self.mark a.self.table.now (fresh_id (ids_of cs)) a.j a.c a.x) none)
+    ∙ sym (ap (low_plan c.args.self.mark c.args.self.table.now (fresh_id (ids_of cs)) c.args.j c.args.c c.args.x) none)
 
 pub returns-in-len1-up : goal.returns-in-len1-up
 unfolding low_plan
 returns-in-len1-up c =
-    let a = c.args in
-    let cs = a.components.now in
-    let k = a.j + 2 in
+    let cs = c.args.components.now in
+    let k = c.args.j + 2 in
     let h : 0 < length (drop k cs) = omega (arith, length-take (length cs - k) (drop k cs), length-drop k cs) in
     let some : drop k cs ≡ get_or (drop k cs) 0 unread ∷ drop 1 (drop k cs) = drop_more (drop k cs) 0 unread h in
     (rw (take_rest cs k, take_rest (drop k cs) 1) at c.spill_plan.ensures)
-    ∙ sym (ap (low_plan a.self.mark a.self.table.now (fresh_id (ids_of cs)) a.j a.c a.x) some)
+    ∙ sym (ap (low_plan c.args.self.mark c.args.self.table.now (fresh_id (ids_of cs)) c.args.j c.args.c c.args.x) some)

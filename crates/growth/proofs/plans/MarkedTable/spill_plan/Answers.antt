@@ -5,9 +5,9 @@ use Rattle.growth.proofs.plans.MarkedTable.spill_plan.Goals as goal
 
 pub returns-then-next : goal.returns-then-next
 returns-then-next c =
-    let a = c.args in
     rw (c.replacing.ensures, c.with_extent-m.ensures)
-    (sym (spill_init a.self.mark a.self.table.now a.j a.x a.next a.after.now c.if-next.true))
+    (sym (spill_init c.args.self.mark c.args.self.table.now c.args.j c.args.x c.args.next c.args.after.now
+    c.if-next.true))
 
 pub choosing-requires : goal.choosing-requires
 choosing-requires c =
@@ -15,7 +15,7 @@ choosing-requires c =
 
 pub returns : goal.returns
 returns c =
-    let a = c.args in
     c.choosing.ensures
     ∙ rw (c.follow_plan.ensures, c.with_extent-m.ensures)
-    (sym (spill_chooses a.self.mark a.self.table.now a.j a.x a.next a.after.now c.if-next.false))
+    (sym (spill_chooses c.args.self.mark c.args.self.table.now c.args.j c.args.x c.args.next c.args.after.now
+    c.if-next.false))

@@ -13,8 +13,8 @@ use Rattle.mapping.proofs.listed.ListedComponents.stripe.Goals as goal
 pub returns : goal.returns
 unfolding same_object
 returns c =
-    let cs = c.args.self.now.components.now in
-    rw (any_default cs c.args.i no_component unread c.requires)
+    rw (any_default c.args.self.now.components.now c.args.i no_component unread c.requires)
     (found-position (same_object c.args.object) _ _ _ c.position.ensures.ran
-    (YieldsList-from_slice (records_of (get_or cs c.args.i unread)) (c.iter.ensures.rest ∙ c.objects.ensures))
+    (YieldsList-from_slice (records_of (get_or c.args.self.now.components.now c.args.i unread))
+    (c.iter.ensures.rest ∙ c.objects.ensures))
     (λ x b q k. search (rules, tests)))

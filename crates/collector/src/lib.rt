@@ -74,8 +74,8 @@ pub fn is_next(pages: usize, generation: u32, h: Head) -> bool
     usize::from(h.number) == pages && (pages == 0 || h.generation == generation)
 }
 
-// The layout with the components at the places of the bytes after its own. Its generation and whether it is complete are
-// what the head of the page says.
+// The layout with the components at the places of the bytes after its own. Its generation and whether it is complete
+// are what the head of the page says.
 fn with_components(l: Layout, head: Head, s: &[u8], places: &[usize]) -> Layout
     requires { (l.count + length places.now ≤ 16)
         × ((i : ℕ) → i < length places.now → component_end s.now (get_or places.now i 0) ≤ length s.now) }

@@ -1,5 +1,5 @@
-// Growth: one call makes one step, for the component that holds an offset. It gives the layout afterwards, and raises the
-// next numbers of the chosen targets in the free table that is lent.
+// Growth: one call makes one step, for the component that holds an offset. It gives the layout afterwards, and raises
+// the next numbers of the chosen targets in the free table that is lent.
 #![tactic(auto)]
 
 ghost use Rattle.std.specs.Prelude.{◌≡◌, true};

@@ -7,9 +7,9 @@ ghost use Rattle.std.specs.Prelude.{◌≤◌, length, IfOk};
 use std::io;
 use std::io::Read;
 
-// Reads until the buffer is full or the input ends, and tells how many bytes it put at the start of the buffer. Proved is
-// that it ends and that so many bytes are in the buffer; no contract can name what a stream gives, so that all of it is
-// read is shown by the samples.
+// Reads until the buffer is full or the input ends, and tells how many bytes it put at the start of the buffer. Proved
+// is that it ends and that so many bytes are in the buffer; no contract can name what a stream gives, so that all of it
+// is read is shown by the samples.
 fn read_full<R: Read>(input: &mut R, buffer: &mut [u8]) -> io::Result<usize>
     ensures { IfOk result (λ n. n ≤ length buffer.new) }
 {

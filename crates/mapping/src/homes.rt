@@ -29,8 +29,8 @@ fn home_in<C: Components>(components: &C, i: usize, offset: u64) -> ObjectHome
     }
 }
 
-// The home of a file byte. Refused by 10 if the byte lies at or past the last component's end, and by 11 if it lies in a
-// component that is not init.
+// The home of a file byte. Refused by 10 if the byte lies at or past the last component's end, and by 11 if it lies in
+// a component that is not init.
 pub fn lookup_in<C: Components>(components: &C, offset: u64) -> Result<ObjectHome, Refusal>
     ensures { lookup_says result ≡ lookup_in offset (C.list components.now) }
 {

@@ -36,10 +36,10 @@ fn put_piece(room: &mut [u64], at: usize, p: Piece)
 }
 
 // Writes the pieces of a component's bytes from `from` to `to`, which is not among them, from place `at` on, and gives
-// the place after them. It divides only to find the first unit. From there it steps from unit to unit: to the next stripe in the
-// same row or, after the last stripe, to stripe 0 in the next row. For the bytes from 2M + 10 to 5M + 7, by 3 stripes
-// of 1M (units are counted from byte 0 of the file, whatever component the bytes are in; a dot is a unit that no byte
-// of these is in):
+// the place after them. It divides only to find the first unit. From there it steps from unit to unit: to the next
+// stripe in the same row or, after the last stripe, to stripe 0 in the next row. For the bytes from 2M + 10 to 5M + 7,
+// by 3 stripes of 1M (units are counted from byte 0 of the file, whatever component the bytes are in; a dot is a unit
+// that no byte of these is in):
 //
 //               stripe 0             stripe 1             stripe 2
 //      row 0    .                    .                    unit 2: piece 1

@@ -60,8 +60,8 @@ pub fn take_page(c: &mut Collector, page: &[u8]) -> Result<Answer, Refusal>
     collector::take_page(c, page)
 }
 
-// The layout out of a complete collector, which is only read and stays as it was. The answer is `Ok` with the layout, that
-// is, the gathered components and the generation of their pages; or this refusal:
+// The layout out of a complete collector, which is only read and stays as it was. The answer is `Ok` with the layout,
+// that is, the gathered components and the generation of their pages; or this refusal:
 //  1 `NotValid`: the collector breaks the rules of a collector, its components break the component rules, or it is not
 //    complete.
 // That it stays as it was is in the type: what a `&` lends has one value in a contract, so the second equation holds of
@@ -86,8 +86,8 @@ pub fn page_out(l: Layout, number: u64, buffer: &mut [u8]) -> Result<usize, Refu
     paging::page_out(l, number, buffer)
 }
 
-// The home of the file byte at `offset`. The answer is `Ok` with the target and the number of the object and the byte of
-// that object, or one of these refusals:
+// The home of the file byte at `offset`. The answer is `Ok` with the target and the number of the object and the byte
+// of that object, or one of these refusals:
 //  1 `NotValid`: the layout is not valid;
 //  10 `PastEnd`: the byte lies at or past the last component's end;
 //  11 `NotInit`: the byte lies in a component that is not init.
@@ -101,7 +101,8 @@ pub fn lookup(l: Layout, offset: u64) -> Result<ObjectHome, Refusal>
 // with the file byte, or one of these refusals:
 //  1 `NotValid`: the layout is not valid;
 //  13 `NoObject`: the object is not in the layout;
-//  14 `Hidden`: the object byte is hidden, that is, its file byte lies outside the object's component, or is not below 2^64.
+//  14 `Hidden`: the object byte is hidden, that is, its file byte lies outside the object's component, or is not below
+//     2^64.
 pub fn back(l: Layout, target: u32, number: u64, byte: u64) -> Result<u64, Refusal>
     ensures { back_says result ≡ back_of (in_object (object_of target number) byte) l }
 {
@@ -110,8 +111,9 @@ pub fn back(l: Layout, target: u32, number: u64, byte: u64) -> Result<u64, Refus
 
 // Cuts the request of `bytes` bytes from `offset` at every component border and at every multiple of the component's
 // stripe size. The answer is `Ok` with the number of pieces, which are in file order in the first of the lent numbers,
-// five a piece: file offset, length, component id, stripe, object byte; the other numbers stay. A request of no bytes has
-// no pieces in a valid layout, wherever it points. Or the answer is one of these refusals; all lent numbers then stay:
+// five a piece: file offset, length, component id, stripe, object byte; the other numbers stay. A request of no bytes
+// has no pieces in a valid layout, wherever it points. Or the answer is one of these refusals; all lent numbers then
+// stay:
 //  1 `NotValid`: the layout is not valid;
 //  9 `RequestEnd`: offset + bytes is above 2^64 - 1;
 //  10 `PastEnd`: a byte asked for lies at or past the last component's end;
@@ -129,11 +131,11 @@ pub fn cut(l: Layout, offset: u64, bytes: u64, room: &mut [u64]) -> Result<u64, 
     mapping::cut(l, offset, bytes, room)
 }
 
-// Makes one step of growth of the lent layout, for the component that holds the file byte at `offset`. `mark` is the low
-// mark in bytes. The free table is lent as its records, targets rising. The answer is `Ok` with whether the byte has a home
-// now and whether the layout changed: the layout is changed in place, and the next numbers of the chosen targets are raised
-// in the table. One step may not reach the byte: the call is then made again. Or the answer is one of these refusals, and
-// the layout and every record stay:
+// Makes one step of growth of the lent layout, for the component that holds the file byte at `offset`. `mark` is the
+// low mark in bytes. The free table is lent as its records, targets rising. The answer is `Ok` with whether the byte
+// has a home now and whether the layout changed: the layout is changed in place, and the next numbers of the chosen
+// targets are raised in the table. One step may not reach the byte: the call is then made again. Or the answer is one
+// of these refusals, and the layout and every record stay:
 //  1 `NotValid`: the layout is not valid;
 //  10 `PastEnd`: the byte lies at or past the last component's end;
 //  15 `Table`: the table has more than 64 records, or its targets do not rise strictly, or one is above 65,534;

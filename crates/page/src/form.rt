@@ -92,7 +92,8 @@ fn end_of_component(s: &[u8], at: usize, limit: usize) -> Option<usize>
 
 // Walks over the page that the bytes begin with and that is to end by the limit, up to the first fault. The places of
 // its components are stored from position n on, as far as there are positions, each with `base` added: the bytes may be
-// part of longer ones, with `base` bytes before them. Gives where the page ends, or `None` if it does not have its form.
+// part of longer ones, with `base` bytes before them. Gives where the page ends, or `None` if it does not have its
+// form.
 pub fn walk(
     s: &[u8],
     limit: usize,

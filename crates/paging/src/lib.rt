@@ -64,8 +64,8 @@ fn put_components(buffer: &mut [u8], components: &[Component])
 }
 
 // Writes page `number` of a layout that is known to be valid into the first bytes of the buffer; what is after
-// them stays. Gives how many bytes were written. Refused if there is no such page, and if the buffer is shorter than the
-// page: the buffer then stays as it was.
+// them stays. Gives how many bytes were written. Refused if there is no such page, and if the buffer is shorter than
+// the page: the buffer then stays as it was.
 pub fn write_page(l: Layout, number: u64, buffer: &mut [u8]) -> Result<usize, Refusal>
     requires { valid l ≡ true }
     ensures { let refusal = write_refusal l number (length buffer.old) in

@@ -86,11 +86,11 @@ impl<'a> Placed<'a> {
         mapping::objects::back_in(self, object, byte)
     }
 
-    // Cuts the request of `bytes` bytes from `offset` at every component border and at every multiple of the component's
-    // stripe size, and writes five numbers a piece, in file order, into the first of the lent numbers; the others stay.
-    // Refused by 9 if offset + bytes is above 2^64 - 1, 10 if a byte asked for lies at or past the last component's
-    // end, 11 if one lies in a component that is not init, 12 if there are more pieces than 256 or than a fifth of
-    // the lent numbers: all of them then stay.
+    // Cuts the request of `bytes` bytes from `offset` at every component border and at every multiple of the
+    // component's stripe size, and writes five numbers a piece, in file order, into the first of the lent numbers; the
+    // others stay. Refused by 9 if offset + bytes is above 2^64 - 1, 10 if a byte asked for lies at or past the last
+    // component's end, 11 if one lies in a component that is not init, 12 if there are more pieces than 256 or than a
+    // fifth of the lent numbers: all of them then stay.
     pub fn cut(&self, offset: u64, bytes: u64, room: &mut [u64]) -> Result<u64, Refusal>
         ensures { let lent = room.old in
             let cs = components_at self.now.pages.now self.now.places.now in

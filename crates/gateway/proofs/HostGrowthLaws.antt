@@ -36,12 +36,12 @@ unfolding grow_in
 bad_table l k e = bool_cases (leb (last_end (view l)) k.offset) (λ p. rw p) (λ p. rw (p, e))
 
 -- On a valid layout, 1 does not apply.
-grow_in_lem : (l : Layout) (k : Call) → valid l ≡ true → grow_of l k ≡ grow_in l k
+pub grow_in_lem : (l : Layout) (k : Call) → valid l ≡ true → grow_of l k ≡ grow_in l k
 unfolding grow_of
 grow_in_lem l k v = rw v
 
 -- The table after a call has as many records as the table before it.
-call_length : (l : Layout) (k : Call) → length (grow_of l k).table ≡ length k.table
+pub call_length : (l : Layout) (k : Call) → length (grow_of l k).table ≡ length k.table
 call_length l k =
     ⊎_elim (λ e. ap length e)
     (λ (c : Changes l k (grow_of l k)). ap length c.table

@@ -1,19 +1,34 @@
 -- What the host's growth comes to, by the number that growth has.
-use Prim.Native.Nat.{ℕ, ◌<◌}
-use Rattle.std.specs.Prelude.{◌≡◌, List, [], ◌∷◌, length}
+use Prim.Native.Nat.{ℕ, ◌<◌, ◌≤◌}
+use Rattle.std.specs.Prelude.{◌≡◌, List, [], ◌∷◌, true, map, length, Result}
 use Rattle.std.proofs.Math.Path.{refl}
-use Rattle.std.proofs.Common.{sym, ap, ◌∙◌, arith}
+use Rattle.std.proofs.Common.{sym, ap, ◌∙◌, arith, length-take}
 use Rattle.std.proofs.lemmas.List.Edits.{sets}
+use Rattle.refusals.specs.declared.Refusal.{Refusal}
 use Rattle.layout.specs.declared.Layout.{Layout}
+use Rattle.layout.specs.Rules.{valid}
 use Rattle.mapping.specs.Answers.{Answer, gives, refuses}
+use Rattle.free_table.specs.declared.TargetRecord.{TargetRecord}
 use Rattle.free_table.specs.Table.{Table, table_of}
 use Rattle.growth_rules.specs.Steps.{Call}
-use Rattle.growth_rules.specs.Growing.{Effect, Outcome}
+use Rattle.growth_rules.specs.Growing.{Effect, Outcome, grow_in, grow_of}
 use Rattle.growth_rules.proofs.CallLaws.{refused_some}
+use Rattle.growth.specs.declared.Grown.{Grown}
+use Rattle.growth.specs.Answers.{call_of, GrownSays}
 use Rattle.gateway.specs.Host.{host_reading, lent_after}
 use Rattle.gateway.specs.HostGrowth.{word_table, with_next_words, host_grown, pages_of, room_number, later_number, home_number}
+use Rattle.gateway.specs.LentWords.{held_record, first_held}
 use Rattle.gateway.proofs.HostGrowthLaws as laws
 use Rattle.gateway.proofs.HostGrowthLaws.{Stated}
+
+-- The records after growth of those that were loaded have places in a table of 65.
+pub step_few : (l : Layout) (offset mark : ℕ) (ws : List ℕ) → valid l ≡ true → (r : Result Grown Refusal) (rs : List TargetRecord)
+    → GrownSays l r rs (grow_in l (call_of offset mark (first_held 65 ws))) → length rs ≤ 65
+step_few l offset mark ws v r rs given =
+    let k = call_of offset mark (first_held 65 ws) in
+    let same : length rs ≡ length (grow_of l k).table =
+    ap length given.table ∙ ap (λ (o : Outcome). length o.table) (sym (laws.grow_in_lem l k v)) in
+    omega (arith, same, laws.call_length l k, length-take 65 (map held_record (word_table ws)))
 
 module _ (s : List ℕ) (offset mark : ℕ) (ws bs ns : List ℕ) where
   abbrev out : Outcome

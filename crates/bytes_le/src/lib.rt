@@ -43,7 +43,8 @@ pub trait LittleEndian: Copy {
     ghost back: { (n : Self) (t : List ℕ) → Fits n → number_at (bytes_of n ++ t) 0 ≡ n };
 
     // and what was read is written again.
-    ghost again: { (s : List ℕ) (at : ℕ) → AreBytes s → at + size ≤ length s → bytes_of (number_at s at) ≡ take size (drop at s) };
+    ghost again: { (s : List ℕ) (at : ℕ) → AreBytes s → at + size ≤ length s
+        → bytes_of (number_at s at) ≡ take size (drop at s) };
 }
 
 impl LittleEndian for u16 {

@@ -9,7 +9,8 @@ ghost use Rattle.mapping.specs.Homes.{has_home};
 ghost use Rattle.free_table.specs.Table.{table_ok};
 ghost use Rattle.growth_rules.specs.Growing.{meets, step_of, outcome_of};
 ghost use Rattle.growth.specs.Answers.{call_of, GrownSays};
-ghost use Rattle.growth.specs.Plans.{planned, planned_objects, change_refusal, made_plan, change_plan, IsWithin, PlanFor};
+ghost use Rattle.growth.specs.Plans.{planned, planned_objects, change_refusal, made_plan, change_plan};
+ghost use Rattle.growth.specs.Plans.{IsWithin, PlanFor};
 
 use crate::{Change, Effect, Grown, changing};
 use free_table::TargetRecord;

@@ -134,7 +134,9 @@ fn put_part(room: &mut [u64], at: usize, c: Span, request: Request) -> usize
 // Writes the pieces of the request in the components into the first of the lent numbers.
 fn put_pieces<C: Components>(room: &mut [u64], components: &C, request: Request)
     requires { (5 * piece_count request.offset request.stop (spans_of (C.list components.now)) ≤ length room.old) }
-    ensures { room.new ≡ sets room.old 0 (all_numbers (pieces_of request.offset request.stop (spans_of (C.list components.now)))) }
+    ensures { room.new
+        ≡ sets room.old 0
+        (all_numbers (pieces_of request.offset request.stop (spans_of (C.list components.now)))) }
 {
     let mut at: usize = 0;
     for i in 0..components.count() {

@@ -55,7 +55,8 @@ pub fn put_units(room: &mut [u64], at: usize, c: Span, from: u64, to: u64) -> us
         × (from < to)
         × (at + 5 * unit_count c.stripe_size from to ≤ length room.old) }
     ensures { (room.new
-        ≡ sets room.old at (all_numbers (unit_pieces (unit_count c.stripe_size from to) c.id c.stripe_size c.stripe_count from to)))
+        ≡ sets room.old at
+        (all_numbers (unit_pieces (unit_count c.stripe_size from to) c.id c.stripe_size c.stripe_count from to)))
         × (result ≡ at + 5 * unit_count c.stripe_size from to) }
 {
     let size = c.stripe_size as u64;

@@ -1,8 +1,9 @@
--- What a call answers, with the number of the refusal in place of the refusal: as document 01 has it.
+-- Answers by their numbers.
 use Rattle.std.specs.Prelude.{ℕ, ◌≡◌, refl, Result, Ok, Err}
 use Rattle.refusals.specs.declared.Refusal.{Refusal}
 use Rattle.refusals.specs.Refusals.{number_of, number_in}
 
+-- What a call answers, with the number of the refusal in place of the refusal: as document 01 has it.
 abbrev pub numbered : {A : Type 0} → Result A Refusal → Result A ℕ
 numbered (Ok a) = Ok a
 numbered (Err e) = Err (number_of e)

@@ -1,4 +1,4 @@
 pub mod FirstRecord
 pub mod FieldsAt
 pub mod Joined
-pub mod Scanned
+pub mod Records

@@ -2,5 +2,5 @@ pub mod Signed
 pub mod Unread
 pub mod FirstTarget
 pub mod Ends
-pub mod Gathered
+pub mod Scanned
 pub mod Objects

@@ -1,17 +1,18 @@
 // Distinctness (refusal 8): ids, and object records anywhere in the layout. The object records are gathered once into
-// two dense rows, of targets and of numbers, and the rows are scanned. A third row has a short key of each record: a
-// record whose key equals none before it is asked of none.
+// a dense row, which is scanned. A second row has a short key of each record: a record whose key equals none before it
+// is asked of none.
 ghost use Rattle.std.specs.Prelude.{◌≡◌, true, cond, ◌+◌, ◌*◌, ◌≤◌, ◌<◌, eqb, length, take, get_or};
 ghost use Rattle.std.proofs.lemmas.List.Edits.{sets};
 ghost use Rattle.std.proofs.Math.Seq.{slice};
 ghost use Rattle.lists.specs.Tests.{every, first_failed, found};
 ghost use Rattle.lists.specs.Counting.{fresh, elem};
-ghost use Rattle.layout.specs.Records.{view, records_of, records_in};
-ghost use Rattle.layout.specs.Rows.{targets_of, numbers_of, object_of, named, key_of, keys_of};
+ghost use Rattle.layout.specs.Records.{no_component, records_of, records_in};
+ghost use Rattle.layout.specs.Rows.{key_of, keys_of};
 ghost use Rattle.layout.specs.Distinct.{same_object, object_tests};
 ghost use Rattle.layout.specs.Known.{Passed};
 
-use crate::Component;
+use crate::components::Components;
+use crate::{NO_OBJECT, Object};
 
 // The position of the first id that equals one before it. The tests of the first `from` are known to pass.
 pub fn id_fault(ids: &[u16], from: usize) -> Option<usize>
@@ -28,19 +29,19 @@ pub fn id_fault(ids: &[u16], from: usize) -> Option<usize>
 
 // The key of an object record.
 #[tactic(auto, unfolding(crate::specs::Rows::key_of))]
-fn key_of(target: u32, number: u64) -> u16
-    ensures { result ≡ key_of (object_of target number) }
+fn key_of(o: Object) -> u16
+    ensures { result ≡ key_of o }
 {
-    ((number % 65536 + 257 * (u64::from(target) % 65536)) % 65536) as u16
+    ((o.number % 65536 + 257 * (u64::from(o.target) % 65536)) % 65536) as u16
 }
 
 // Stores the keys of object records in a row.
-fn put_keys(targets: &[u32], numbers: &[u64], keys: &mut [u16])
-    requires { (length numbers.now ≡ length targets.now) × (length keys.old ≡ length targets.now) }
-    ensures { keys.new ≡ keys_of (named targets.now numbers.now) }
+fn put_keys(objects: &[Object], keys: &mut [u16])
+    requires { length keys.old ≡ length objects.now }
+    ensures { keys.new ≡ keys_of objects.now }
 {
-    for i in 0..targets.len() {
-        keys[i] = key_of(targets[i], numbers[i]);
+    for (i, o) in objects.iter().enumerate() {
+        keys[i] = key_of(*o);
     }
 }
 
@@ -59,18 +60,16 @@ fn row_start(before: &[u16], key: u16) -> usize
 
 // The position of the first object record that equals one before it. The tests of the first `from` are known to pass,
 // and the keys of all are known.
-fn repeat_by_keys(targets: &[u32], numbers: &[u64], keys: &[u16], from: usize) -> Option<usize>
-    requires { let os = named targets.now numbers.now in
-        (length numbers.now ≡ length targets.now)
-        × (keys.now ≡ keys_of os)
-        × Passed from (length os) (fresh same_object os) }
-    ensures { let os = named targets.now numbers.now in
+fn repeat_by_keys(objects: &[Object], keys: &[u16], from: usize) -> Option<usize>
+    requires { let os = objects.now in
+        (keys.now ≡ keys_of os) × Passed from (length os) (fresh same_object os) }
+    ensures { let os = objects.now in
         result ≡ found (first_failed (fresh same_object os)) (length os) }
 {
     'scan: {
-        for later in from..targets.len() {
+        for later in from..objects.len() {
             for earlier in row_start(&keys[..later], keys[later])..later {
-                if targets[later] == targets[earlier] && numbers[later] == numbers[earlier] {
+                if objects[later] == objects[earlier] {
                     break 'scan Some(later);
                 }
             }
@@ -80,69 +79,87 @@ fn repeat_by_keys(targets: &[u32], numbers: &[u64], keys: &[u16], from: usize) -
 }
 
 // The same, if the keys are not known yet: they are stored in a row of their own.
-pub fn object_repeat(
-    targets: &[u32],
-    numbers: &[u64],
-    keys: &mut [u16],
-    from: usize,
-) -> Option<usize>
-    requires { let os = named targets.now numbers.now in
-        (length numbers.now ≡ length targets.now)
-        × (length keys.old ≡ length targets.now)
-        × Passed from (length os) (fresh same_object os) }
-    ensures { let os = named targets.now numbers.now in
-        (result ≡ found (first_failed (fresh same_object os)) (length os))
-        × (keys.new ≡ keys_of os) }
+pub fn object_repeat(objects: &[Object], keys: &mut [u16], from: usize) -> Option<usize>
+    requires { let os = objects.now in
+        (length keys.old ≡ length os) × Passed from (length os) (fresh same_object os) }
+    ensures { let os = objects.now in
+        (result ≡ found (first_failed (fresh same_object os)) (length os)) × (keys.new ≡ keys_of os) }
 {
-    put_keys(targets, numbers, keys);
-    repeat_by_keys(targets, numbers, keys, from)
+    put_keys(objects, keys);
+    repeat_by_keys(objects, keys, from)
 }
 
-// Copies the object records of a component to the rows, from place `at` on; gives the place after them.
-fn put_records(c: &Component, at: usize, targets: &mut [u32], numbers: &mut [u64]) -> usize
-    requires { (at + 16 ≤ length targets.old) × (at + 16 ≤ length numbers.old) }
-    ensures { (result ≡ at + length (records_of c.now))
-        × (result ≤ at + 16)
-        × (targets.new ≡ sets targets.old at (targets_of (records_of c.now)))
-        × (numbers.new ≡ sets numbers.old at (numbers_of (records_of c.now))) }
+// Copies the object records of the component at a position to the row, from place `at` on; gives the place after them.
+fn put_records<C: Components>(components: &C, i: usize, at: usize, objects: &mut [Object]) -> usize
+    requires place { i < length (C.list components.now) }
+    requires room { at + length (records_of (get_or (C.list components.now) i no_component))
+        ≤ length objects.old }
+    ensures { let os = records_of (get_or (C.list components.now) i no_component) in
+        (result ≡ at + length os) × (objects.new ≡ sets objects.old at os) }
 {
-    let objects = c.objects();
-    for (i, o) in objects.iter().enumerate() {
-        targets[at + i] = o.target;
-        numbers[at + i] = o.number;
+    let n = components.records(i);
+    for j in 0..n {
+        objects[at + j] = components.record(i, j);
     }
-    at + objects.len()
+    at + n
 }
 
-// Copies the object records of components to the rows, from place `at` on; gives the place after them.
-fn put_all(components: &[Component], at: usize, targets: &mut [u32], numbers: &mut [u64]) -> usize
-    requires { (at + 16 * length components.now ≤ length targets.old)
-        × (at + 16 * length components.now ≤ length numbers.old) }
-    ensures { let os = records_in components.now in
-        (result ≡ at + length os)
-        × (result ≤ at + 16 * length components.now)
-        × (targets.new ≡ sets targets.old at (targets_of os))
-        × (numbers.new ≡ sets numbers.old at (numbers_of os)) }
+// Copies the object records of the components to the row, from its first place on; gives the place after them.
+fn put_all<C: Components>(components: &C, objects: &mut [Object]) -> usize
+    requires { length (records_in (C.list components.now)) ≤ length objects.old }
+    ensures { let os = records_in (C.list components.now) in
+        (result ≡ length os) × (objects.new ≡ sets objects.old 0 os) }
 {
-    let mut p = at;
-    for c in components {
-        p = put_records(c, p, targets, numbers);
+    let mut p = 0;
+    for i in 0..components.count() {
+        p = put_records(components, i, p, objects);
     }
     p
 }
 
-// Do all object records of the components differ? Those of the first `from` components are known to.
-pub fn objects_differ(components: &[Component], from: usize) -> bool
-    requires { let cs = components.now in
+// How many object records the first `to` components have.
+fn record_total<C: Components>(components: &C, to: usize) -> usize
+    requires { (to ≤ length (C.list components.now)) × (to ≤ 16) }
+    ensures { (result ≡ length (records_in (take to (C.list components.now))))
+        × (result ≤ 16 * to) }
+{
+    let mut total = 0;
+    for i in 0..to {
+        total += components.records(i);
+    }
+    total
+}
+
+// Do the object records of the components differ, which are at most N? Those of the first `from` components are known
+// to.
+fn differ<const N: usize, C: Components>(components: &C, from: usize) -> bool
+    requires { let cs = C.list components.now in
+        (N ≤ 256)
+        × (from ≤ length cs)
+        × (length cs ≤ 16)
+        × (length (records_in cs) ≤ N)
+        × (every (take (length (records_in (take from cs))) (object_tests cs)) ≡ true) }
+    ensures { result ≡ every (object_tests (C.list components.now)) }
+{
+    let mut objects = [NO_OBJECT; N];
+    let mut keys = [0u16; N];
+    let all = put_all(components, &mut objects);
+    let known = record_total(components, from);
+    object_repeat(&objects[..all], &mut keys[..all], known).is_none()
+}
+
+// Do all object records of the components differ? Those of the first `from` components are known to. The row is cleared
+// at each call, so few records get a short one, and fewer than two differ.
+pub fn objects_differ<C: Components>(components: &C, from: usize) -> bool
+    requires { let cs = C.list components.now in
         (from ≤ length cs)
         × (length cs ≤ 16)
         × (every (take (length (records_in (take from cs))) (object_tests cs)) ≡ true) }
-    ensures { result ≡ every (object_tests components.now) }
+    ensures { result ≡ every (object_tests (C.list components.now)) }
 {
-    let mut targets = [0; 256];
-    let mut numbers = [0; 256];
-    let mut keys = [0; 256];
-    let known = put_all(&components[..from], 0, &mut targets, &mut numbers);
-    let all = put_all(&components[from..], known, &mut targets, &mut numbers);
-    object_repeat(&targets[..all], &numbers[..all], &mut keys[..all], known).is_none()
+    match record_total(components, components.count()) {
+        0..=1 => true,
+        2..=32 => differ::<32, C>(components, from),
+        _ => differ::<256, C>(components, from),
+    }
 }

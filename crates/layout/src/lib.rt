@@ -10,8 +10,10 @@ ghost use Rattle.layout.specs.Rules.{later_rule_broken, rule_broken, valid};
 ghost use Rattle.layout.specs.Known.{RulesKnown, Kept};
 ghost use Rattle.layout.specs.Holder.{holder_of};
 
+use components::Listed;
 use refusals::Refusal;
 
+pub mod components;
 pub mod distinct;
 pub mod fields;
 pub mod neighbours;
@@ -189,7 +191,7 @@ fn check_later_rules(components: &[Component], more: bool, from: usize) -> Resul
     if distinct::id_fault(&outline.ids[..n], from).is_some() {
         return Err(Refusal::Distinctness);
     }
-    if !distinct::objects_differ(components, from) {
+    if !distinct::objects_differ(&Listed { components }, from) {
         return Err(Refusal::Distinctness);
     }
     Ok(())

@@ -4,14 +4,14 @@ use Rattle.std.proofs.Common.{◌≡◌, get_or, take}
 use Rattle.std.proofs.Math.Seq.{slice}
 use Rattle.lists.specs.Counting.{elem}
 use Rattle.lists.proofs.Found.{Fresh}
-use Rattle.layout.specs.Rows.{object_of, named}
+use Rattle.layout.specs.Records.{no_object}
 use Rattle.layout.specs.Distinct.{same_object}
 use Rattle.layout.proofs.distinct.repeat_by_keys.Given as goal
 
 abbrev pub invariant-loop-later : goal.invariant-loop-later
-invariant-loop-later l = Fresh same_object (named l.targets l.numbers) l.later
+invariant-loop-later l = Fresh same_object l.objects l.later
 
 abbrev pub invariant-loop-earlier : goal.invariant-loop-earlier
 invariant-loop-earlier l =
-    elem same_object (object_of (get_or l.targets l.later 0) (get_or l.numbers l.later 0)) (take l.later (named l.targets l.numbers))
-    ≡ elem same_object (object_of (get_or l.targets l.later 0) (get_or l.numbers l.later 0)) (slice l.earlier l.later (named l.targets l.numbers))
+    elem same_object (get_or l.objects l.later no_object) (take l.later l.objects)
+    ≡ elem same_object (get_or l.objects l.later no_object) (slice l.earlier l.later l.objects)

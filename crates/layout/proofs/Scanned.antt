@@ -1,12 +1,12 @@
--- A scan of the rows that hold object records tells whether these differ.
+-- A scan of the row that holds object records tells whether these differ.
 use Rattle.std.specs.Prelude.{ℕ, ◌≤◌, ◌<◌, ◌≡◌, refl, List, [], ◌∷◌, Option, is_some, Bool, true, false, not, length, take}
 use Rattle.std.proofs.Common.{sym, ◌∙◌, arith}
 use Rattle.std.proofs.lemmas.List.Edits.{sets}
 use Rattle.lists.specs.Tests.{every, first_failed, found, length_along}
 use Rattle.lists.specs.Counting.{fresh, unseen, seen_with}
+use Rattle.lists.specs.Slices.{take_sets}
 use Rattle.lists.proofs.Found.{some_found}
 use Rattle.layout.specs.declared.Object.{Object}
-use Rattle.layout.specs.Rows.{targets_of, numbers_of, named, take_named, rows_back}
 use Rattle.layout.specs.Distinct.{same_object}
 
 not_same : (a b : Bool) → not a ≡ not b → a ≡ b
@@ -15,11 +15,9 @@ not_same true false e = absurd cc
 not_same false true e = absurd cc
 not_same false false e = refl
 
--- The rows ts and ns, with `all` object records stored in their first places: the first places name the records.
-pub stored : (ts ns ts' ns' : List ℕ) (os : List Object) (all : ℕ) → length os ≤ length ts → length os ≤ length ns
-    → all ≡ length os → ts' ≡ sets ts 0 (targets_of os) → ns' ≡ sets ns 0 (numbers_of os)
-    → named (take all ts') (take all ns') ≡ os
-stored ts ns ts' ns' os all h k a t n = sym (take_named all ts' ns') ∙ rw (a, t, n) (rows_back ts ns os h k)
+-- A row with `all` object records stored in its first places has them there.
+pub stored : (row row' os : List Object) (all : ℕ) → length os ≤ length row → all ≡ length os → row' ≡ sets row 0 os → take all row' ≡ os
+stored row row' os all h a t = rw (a, t) (take_sets row os h)
 
 -- What is said of the scan of them: no record equals one before it exactly if all differ.
 pub scanned : (os ps : List Object) (r : Option ℕ) (b : Bool) → ps ≡ os

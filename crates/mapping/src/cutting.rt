@@ -22,9 +22,9 @@ const MOST_PIECES: u64 = 256;
 
 // A request: the file bytes from `offset` to `stop`, which is not among them.
 #[derive(Clone, Copy)]
-struct Request {
-    offset: u64,
-    stop: u64,
+pub struct Request {
+    pub offset: u64,
+    pub stop: u64,
 }
 
 impl Request {
@@ -40,7 +40,7 @@ impl Request {
 }
 
 // Does a byte of the request lie in the component, and is that not init?
-fn not_init_asked(c: Span, request: Request) -> bool
+pub fn not_init_asked(c: Span, request: Request) -> bool
     ensures { result ≡ not_init_asked request.offset request.stop c }
 {
     let part = request.part(c);
@@ -48,7 +48,7 @@ fn not_init_asked(c: Span, request: Request) -> bool
 }
 
 // The number of pieces of the request in one component, by arithmetic.
-fn part_count(c: Span, request: Request) -> u64
+pub fn part_count(c: Span, request: Request) -> u64
     requires { Cuttable c }
     ensures { (result ≡ part_count request.offset request.stop c) × (result ≤ 2 ^ 48) }
 {
@@ -78,7 +78,7 @@ fn asked<C: Components>(components: &C, request: Request) -> Result<u64, Refusal
 }
 
 // Are there more pieces than 256 or than the room of so many lent numbers?
-fn too_many(numbers: usize, pieces: u64) -> bool
+pub fn too_many(numbers: usize, pieces: u64) -> bool
     ensures { result ≡ too_many numbers pieces }
 {
     pieces > MOST_PIECES || pieces > (numbers / 5) as u64
@@ -114,7 +114,7 @@ fn count_pieces<C: Components>(
 }
 
 // Writes the pieces of the request in one component from place `at` on, and gives the place after them.
-fn put_part(room: &mut [u64], at: usize, c: Span, request: Request) -> usize
+pub fn put_part(room: &mut [u64], at: usize, c: Span, request: Request) -> usize
     requires { (Cuttable c)
         × (at + 5 * part_count request.offset request.stop c ≤ length room.old) }
     ensures { (room.new

@@ -6,6 +6,7 @@ ghost use Rattle.mapping.specs.Components.{AreValid};
 
 use crate::Span;
 use crate::components::Components;
+use crate::objects::position_in;
 use layout::{Component, Layout, Object};
 
 // The components of a valid layout in memory.
@@ -47,10 +48,7 @@ impl<'a> Components for Listed<'a> {
     }
 
     fn stripe(&self, i: usize, object: Object) -> Option<usize> {
-        self.components[i]
-            .objects()
-            .iter()
-            .position(|record| *record == object)
+        position_in(self.components[i].objects(), object)
     }
 
     ghost valid = { λ s. s.valid };

@@ -1,11 +1,12 @@
 // The way back: from an object and a byte of it to the file byte.
-ghost use Rattle.std.specs.Prelude.{◌≡◌, true, ◌<◌};
+ghost use Rattle.std.specs.Prelude.{◌≡◌, true, ◌<◌, length};
+ghost use Rattle.lists.specs.Tests.{found};
 ghost use Rattle.stripe.specs.Stripe.{file_byte};
 ghost use Rattle.layout.specs.Records.{view};
 ghost use Rattle.layout.specs.Rules.{valid};
 ghost use Rattle.mapping.specs.Answers.{answer};
 ghost use Rattle.mapping.specs.Homes.{in_object};
-ghost use Rattle.mapping.specs.Back.{hidden_refusal, back_says, back_in};
+ghost use Rattle.mapping.specs.Back.{position_in, hidden_refusal, back_says, back_in};
 
 use crate::Span;
 use crate::components::Components;
@@ -13,9 +14,16 @@ use crate::listed::Listed;
 use layout::{Layout, Object};
 use refusals::Refusal;
 
+// The position of the first object record that names the object.
+pub fn position_in(objects: &[Object], object: Object) -> Option<usize>
+    ensures { result ≡ found (position_in object objects.now) (length objects.now) }
+{
+    objects.iter().position(|record| *record == object)
+}
+
 // The file byte of object byte p of stripe i by a component, or 14 if it is outside the component's extent or not below
 // 2^64.
-fn byte_within(c: Span, i: u16, p: u64) -> Result<u64, Refusal>
+pub fn byte_within(c: Span, i: u16, p: u64) -> Result<u64, Refusal>
     requires { (0 < c.stripe_size) × (0 < c.stripe_count) }
     ensures { back_says result
         ≡ (let b = file_byte c.stripe_size c.stripe_count i p in answer (hidden_refusal c.begin c.end b) b) }

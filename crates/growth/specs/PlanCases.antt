@@ -19,7 +19,7 @@ use Rattle.growth_rules.specs.Steps.{Call, Step, held_step, extension_step}
 use Rattle.growth_rules.specs.Growing.{step_of}
 use Rattle.growth_rules.specs.StepLaws.{step_after_all, held_step_lem, extension_step_lem, extension_after}
 use Rattle.growth.specs.declared.Change.{Change}
-use Rattle.growth.specs.Plans.{Plan, plan_of, plan_says, replacing, granting, choosing_plan, held_plan, follow_plan, spill_plan}
+use Rattle.growth.specs.Plans.{Plan, change_plan, plan_of, plan_says, replacing, granting, choosing_plan, held_plan, follow_plan, spill_plan}
 use Rattle.growth.specs.Plans.{low_plan, extension_plan, plan_at, PlanFor}
 use Rattle.growth.specs.PlanLaws.{Means, held_means, extension_means}
 
@@ -78,31 +78,32 @@ module _ (mark : ℕ) (rs : List TargetRecord) where
     abbrev init_by : Bool → Result Change Refusal
     init_by t = cond t (low_plan mark rs new j c x cs) (Ok grant)
 
-    abbrev extend_by : Bool → Result Change Refusal
-    extend_by t = cond t (init_by (any_low mark rs (records_of c))) (choosing_plan mark rs grant)
+    abbrev extend_by : Bool → Plan
+    extend_by t = plan_of (cond t (init_by (any_low mark rs (records_of c))) (choosing_plan mark rs grant))
 
-    pub extension_chooses : c.init ≡ false → extension_plan mark rs new j (c ∷ x ∷ cs) ≡ choosing_plan mark rs grant
+    pub extension_chooses : c.init ≡ false → extension_plan mark rs new j (c ∷ x ∷ cs) ≡ plan_of (choosing_plan mark rs grant)
     unfolding extension_plan
     extension_chooses e = ap extend_by e
 
-    pub extension_grants : c.init ≡ true → any_low mark rs (records_of c) ≡ false → extension_plan mark rs new j (c ∷ x ∷ cs) ≡ Ok grant
+    pub extension_grants : c.init ≡ true → any_low mark rs (records_of c) ≡ false
+        → extension_plan mark rs new j (c ∷ x ∷ cs) ≡ change_plan grant
     unfolding extension_plan
-    extension_grants e f = ap extend_by e ∙ ap init_by f
+    extension_grants e f = ap extend_by e ∙ ap plan_of (ap init_by f)
 
     pub extension_low : c.init ≡ true → any_low mark rs (records_of c) ≡ true
-        → extension_plan mark rs new j (c ∷ x ∷ cs) ≡ low_plan mark rs new j c x cs
+        → extension_plan mark rs new j (c ∷ x ∷ cs) ≡ plan_of (low_plan mark rs new j c x cs)
     unfolding extension_plan
-    extension_low e f = ap extend_by e ∙ ap init_by f
+    extension_low e f = ap extend_by e ∙ ap plan_of (ap init_by f)
 
   -- The component at a position is an extension, or not.
   module _ (i : ℕ) (cs : List Component) where
     abbrev at_by : Bool → Plan
     at_by t =
-        cond t (plan_of (extension_plan mark rs (fresh_id (ids_of cs)) (i - 1) (drop (i - 1) cs)))
+        cond t (extension_plan mark rs (fresh_id (ids_of cs)) (i - 1) (drop (i - 1) cs))
         (held_plan mark rs i (get_or cs i no_component))
 
     pub at_extension : (get_or cs i no_component).extension ≡ true
-        → plan_at mark rs i cs ≡ plan_of (extension_plan mark rs (fresh_id (ids_of cs)) (i - 1) (drop (i - 1) cs))
+        → plan_at mark rs i cs ≡ extension_plan mark rs (fresh_id (ids_of cs)) (i - 1) (drop (i - 1) cs)
     unfolding plan_at
     at_extension e = ap at_by e
 
@@ -149,7 +150,7 @@ module _ (l : Layout) (v : Valid l) (k : Call) (i : ℕ) (at : i ≡ holder_of k
 
   -- It is an extension.
   extension_for : (j : ℕ) → i ≡ suc j → (get_or cs i no_component).extension ≡ true
-      → PlanFor l k (plan_of (extension_plan k.mark k.table (fresh_id (ids_of cs)) j (slice j l.count l.components)))
+      → PlanFor l k (extension_plan k.mark k.table (fresh_id (ids_of cs)) j (slice j l.count l.components))
   extension_for j next e =
       let c = get_or cs j no_component in
       let x = get_or cs (suc j) no_component in
@@ -161,7 +162,7 @@ module _ (l : Layout) (v : Valid l) (k : Call) (i : ℕ) (at : i ≡ holder_of k
       let few = kind_few (kind_at cs v.keeps.fields no_component j (omega arith)) in
       let rest-fields : Fields rest = fields_drop (suc (suc j)) cs v.keeps.fields in
       rw first
-      (plan_for j (plan_of (extension_plan k.mark k.table new j (c ∷ (x ∷ rest)))) (c ∷ (x ∷ rest)) (extension_step k new c x rest)
+      (plan_for j (extension_plan k.mark k.table new j (c ∷ (x ∷ rest))) (c ∷ (x ∷ rest)) (extension_step k new c x rest)
       (rw (← first) (take-append-drop j cs))
       (extension_means k (take j cs) j (sym (length-take-le j cs (omega arith))) c x new rest few
       (λ n after q. kind_few (rw q at rest-fields).1))

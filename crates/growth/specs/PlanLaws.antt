@@ -245,7 +245,7 @@ module _ (k : Call) where
       -- The extension x holds the offset.
       pub extension_means : (new : ℕ) (cs : List Component) → c.stripe_count ≤ 16
           → ((n : Component) (rest : List Component) → cs ≡ n ∷ rest → n.stripe_count ≤ 16)
-          → Means before (c ∷ x ∷ cs) (plan_of (extension_plan k.mark k.table new j (c ∷ x ∷ cs)))
+          → Means before (c ∷ x ∷ cs) (extension_plan k.mark k.table new j (c ∷ x ∷ cs))
           (extension_step k new c x cs)
       unfolding extension_plan extension_step
       extension_means new cs h f =

@@ -120,18 +120,19 @@ module _ (mark : ℕ) (rs : List TargetRecord) where
     low_plan (n ∷ cs) = spill_plan j x n cs
 
   -- The second of the components, which are from position j on, is an extension and holds the offset.
-  unfoldable pub extension_plan : ℕ → ℕ → List Component → Result Change Refusal
-  extension_plan new j [] = Err TooFewTargets
-  extension_plan new j (c ∷ []) = Err TooFewTargets
+  unfoldable pub extension_plan : ℕ → ℕ → List Component → Plan
+  extension_plan new j [] = Ok None
+  extension_plan new j (c ∷ []) = Ok None
   extension_plan new j (c ∷ x ∷ cs) =
-      cond c.init (cond (any_low mark rs (records_of c)) (low_plan new j c x cs) (Ok (granting j 2 c x x.begin)))
-      (choosing_plan (granting j 2 c x x.begin))
+      let grant = granting j 2 c x x.begin in
+      plan_of
+      (cond c.init (cond (any_low mark rs (records_of c)) (low_plan new j c x cs) (Ok grant)) (choosing_plan grant))
 
   -- The component at position i holds the offset, an extension or not. No extension is first in a valid layout.
   unfoldable pub plan_at : ℕ → List Component → Plan
   plan_at i cs =
       let c = get_or cs i no_component in
-      cond c.extension (plan_of (extension_plan (fresh_id (ids_of cs)) (i - 1) (drop (i - 1) cs))) (held_plan i c)
+      cond c.extension (extension_plan (fresh_id (ids_of cs)) (i - 1) (drop (i - 1) cs)) (held_plan i c)
 
 -- The change is of some of n components, and has chosen at most 16 object records, as many as it says.
 pub record IsWithin (p : Change) (n : ℕ) : Type 0 where

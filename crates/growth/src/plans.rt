@@ -6,7 +6,7 @@ ghost use Rattle.layout.specs.Facts.{Fields};
 ghost use Rattle.free_table.specs.Table.{table_ok};
 ghost use Rattle.growth_rules.specs.Parts.{fresh_id};
 ghost use Rattle.growth.specs.Plans.{replacing, granting, choosing_plan, held_plan, follow_plan, spill_plan};
-ghost use Rattle.growth.specs.Plans.{repeat_plan, low_plan, extension_plan, plan_at};
+ghost use Rattle.growth.specs.Plans.{plan_of, repeat_plan, low_plan, extension_plan, plan_at};
 
 use crate::{Change, components};
 use free_table::TargetRecord;
@@ -158,7 +158,7 @@ impl MarkedTable<'_> {
             × (j + 1 < length components.now)
             × Fields components.now }
         ensures { let new = fresh_id (ids_of components.now) in
-            result ≡ extension_plan self.entry.mark self.entry.table.now new j (drop j components.now) }
+            plan_of result ≡ extension_plan self.entry.mark self.entry.table.now new j (drop j components.now) }
     {
         let c = components[j];
         let x = components[j + 1];

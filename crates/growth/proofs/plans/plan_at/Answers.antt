@@ -12,7 +12,7 @@ use Rattle.layout.specs.FactLaws.{valid_facts, kind_few}
 use Rattle.layout.specs.ArrayLaws.{kind_at}
 use Rattle.layout.proofs.Unread.{unread}
 use Rattle.growth_rules.specs.StepLaws.{extension_after}
-use Rattle.growth.specs.Plans.{plan_of, held_plan}
+use Rattle.growth.specs.Plans.{held_plan}
 use Rattle.growth.specs.PlanCases.{at_extension, at_other}
 use Rattle.growth.proofs.plans.plan_at.Goals as goal
 
@@ -90,7 +90,7 @@ returns-in_err-change c =
     is_extension_lem l (valid_facts l c.requires.0) _ c.components-components.ensures c.args.i c.requires.1
     (not-false _ c.if-not-c.false) in
     let r : c.from_residual.result ≡ Err c.in_err-change.field-0.0 = search rules in
-    r ∙ ap plan_of (rw c.components-components.ensures at c.in_err-change.ensures)
+    r ∙ (rw c.components-components.ensures at c.in_err-change.ensures)
     ∙ sym (at_extension c.args.mark c.args.table.now c.args.i (view l) x)
 
 pub returns : goal.returns
@@ -99,5 +99,5 @@ returns c =
     let x =
     is_extension_lem l (valid_facts l c.requires.0) _ c.components-components.ensures c.args.i c.requires.1
     (not-false _ c.if-not-c.false) in
-    ap plan_of (rw c.components-components.ensures at c.in_ok-change.ensures)
+    (rw c.components-components.ensures at c.in_ok-change.ensures)
     ∙ sym (at_extension c.args.mark c.args.table.now c.args.i (view l) x)

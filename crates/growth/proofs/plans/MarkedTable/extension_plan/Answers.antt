@@ -1,5 +1,5 @@
 -- `growth::plans::MarkedTable::extension_plan` meets its contract.
-use Rattle.std.specs.Prelude.{ℕ, ◌+◌, ◌<◌, ◌≡◌, List, ◌∷◌, length, get_or, drop, Ok}
+use Rattle.std.specs.Prelude.{ℕ, ◌+◌, ◌<◌, ◌≡◌, List, ◌∷◌, length, get_or, drop}
 use Rattle.std.proofs.Common.{sym, ap, ◌∙◌, arith}
 use Rattle.std.proofs.lemmas.List.{drop_more}
 use Rattle.layout.specs.declared.Component.{Component}
@@ -9,7 +9,7 @@ use Rattle.layout.specs.ArrayLaws.{kind_at}
 use Rattle.layout.proofs.Unread.{unread}
 use Rattle.free_table.specs.declared.TargetRecord.{TargetRecord}
 use Rattle.growth_rules.specs.Parts.{fresh_id}
-use Rattle.growth.specs.Plans.{extension_plan}
+use Rattle.growth.specs.Plans.{change_plan, plan_of, extension_plan}
 use Rattle.growth.specs.PlanCases.{extension_chooses, extension_grants, extension_low}
 use Rattle.growth.proofs.plans.MarkedTable.extension_plan.Goals as goal
 
@@ -34,14 +34,14 @@ choosing-requires c =
 
 pub returns-then-not-c : goal.returns-then-not-c
 returns-then-not-c c =
-    c.choosing.ensures
+    ap plan_of c.choosing.ensures
     ∙ rw c.granting-grant.ensures
     (sym (extension_chooses c.args.self.mark c.args.self.table.now _ c.args.j _ _ _ c.if-not-c.true))
     ∙ asked c.args.components.now c.args.j c.args.self.mark c.args.self.table.now c.requires.1
 
 pub returns-then-not-any_low : goal.returns-then-not-any_low
 returns-then-not-any_low c =
-    ap Ok c.granting-grant.ensures
+    ap change_plan c.granting-grant.ensures
     ∙ sym (extension_grants c.args.self.mark c.args.self.table.now _ c.args.j _ _ _ c.if-not-c.false
     (rw (← c.objects.ensures) (sym c.any_low.ensures ∙ c.if-not-any_low.true)))
     ∙ asked c.args.components.now c.args.j c.args.self.mark c.args.self.table.now c.requires.1
@@ -53,7 +53,7 @@ low_plan-requires c =
 
 pub returns : goal.returns
 returns c =
-    c.low_plan.ensures
+    ap plan_of c.low_plan.ensures
     ∙ sym (extension_low c.args.self.mark c.args.self.table.now _ c.args.j _ _ _ c.if-not-c.false
     (rw (← c.objects.ensures) (sym c.any_low.ensures ∙ c.if-not-any_low.false)))
     ∙ asked c.args.components.now c.args.j c.args.self.mark c.args.self.table.now c.requires.1

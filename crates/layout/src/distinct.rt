@@ -78,19 +78,26 @@ fn repeat_by_keys(objects: &[Object], keys: &[u16], from: usize) -> Option<usize
     }
 }
 
-// The same, if the keys are not known yet: they are stored in a row of their own.
+// The same, if the keys are not known yet: they are stored in the first places of a row that has room for them.
 pub fn object_repeat(objects: &[Object], keys: &mut [u16], from: usize) -> Option<usize>
     requires { let os = objects.now in
-        (length keys.old ≡ length os) × Passed from (length os) (fresh same_object os) }
+        (length os ≤ length keys.old) × Passed from (length os) (fresh same_object os) }
     ensures { let os = objects.now in
-        (result ≡ found (first_failed (fresh same_object os)) (length os)) × (keys.new ≡ keys_of os) }
+        (result ≡ found (first_failed (fresh same_object os)) (length os))
+        × (keys.new ≡ sets keys.old 0 (keys_of os)) }
 {
-    put_keys(objects, keys);
-    repeat_by_keys(objects, keys, from)
+    let known = &mut keys[..objects.len()];
+    put_keys(objects, known);
+    repeat_by_keys(objects, known, from)
 }
 
 // Copies the object records of the component at a position to the row, from place `at` on; gives the place after them.
-fn put_records<C: Components>(components: &C, i: usize, at: usize, objects: &mut [Object]) -> usize
+pub fn put_records<C: Components>(
+    components: &C,
+    i: usize,
+    at: usize,
+    objects: &mut [Object],
+) -> usize
     requires place { i < length (C.list components.now) }
     requires room { at + length (records_of (get_or (C.list components.now) i no_component))
         ≤ length objects.old }
@@ -105,7 +112,7 @@ fn put_records<C: Components>(components: &C, i: usize, at: usize, objects: &mut
 }
 
 // Copies the object records of the components to the row, from its first place on; gives the place after them.
-fn put_all<C: Components>(components: &C, objects: &mut [Object]) -> usize
+pub fn put_all<C: Components>(components: &C, objects: &mut [Object]) -> usize
     requires { length (records_in (C.list components.now)) ≤ length objects.old }
     ensures { let os = records_in (C.list components.now) in
         (result ≡ length os) × (objects.new ≡ sets objects.old 0 os) }
@@ -145,7 +152,7 @@ fn differ<const N: usize, C: Components>(components: &C, from: usize) -> bool
     let mut keys = [0u16; N];
     let all = put_all(components, &mut objects);
     let known = record_total(components, from);
-    object_repeat(&objects[..all], &mut keys[..all], known).is_none()
+    object_repeat(&objects[..all], &mut keys, known).is_none()
 }
 
 // Do all object records of the components differ? Those of the first `from` components are known to. The row is cleared

@@ -1,7 +1,7 @@
 -- `layout::distinct::differ` meets its contract: the row holds the object records, and the scan of them finds none that equals
 -- one before it exactly if they differ.
 use Rattle.std.specs.Prelude.{◌+◌, ◌≤◌, ◌≡◌, ◌++◌, length, take, drop, replicate}
-use Rattle.std.proofs.Common.{arith, refl, ap, sym, ◌∙◌, length-append, length-take-le, take-append-drop}
+use Rattle.std.proofs.Common.{arith, refl, ap, sym, ◌∙◌, length-append, take-append-drop}
 use Rattle.std.proofs.lemmas.List.{length-replicate}
 use Rattle.layout.specs.Records.{no_object, records_in}
 use Rattle.layout.specs.PrefixLaws.{records_in_append}
@@ -20,7 +20,7 @@ object_repeat-requires g c =
     let split : os ≡ records_in (take k cs) ++ records_in (drop k cs) =
     ap records_in (sym (take-append-drop k cs)) ∙ records_in_append (take k cs) (drop k cs) in
     let n : length os ≡ length (records_in (take k cs)) + length (records_in (drop k cs)) = ap length split ∙ rw length-append refl in (
-      length-take-le _ _ (rw length-replicate (omega arith)) ∙ sym t,
+      rw length-replicate (omega (arith, t)),
       rw row (omega (arith, n, c.record_total-known.ensures), rw c.record_total-known.ensures.0 c.requires.4),
     )
 

@@ -1,7 +1,7 @@
 -- `layout::distinct::record_total` meets its contract: the records of the first i components are counted.
-use Rattle.std.proofs.Common.{◌≡◌, refl, length, get_or, arith, length-append, append-nil}
+use Rattle.std.proofs.Common.{◌≡◌, refl, arith, length-append, append-nil}
 use Rattle.lists.specs.Slices.{take_next}
-use Rattle.layout.specs.Records.{no_component, records_of}
+use Rattle.layout.specs.Records.{no_component}
 use Rattle.layout.specs.PrefixLaws.{records_in_append}
 use Rattle.layout.proofs.distinct.record_total.Goals as goal
 

@@ -73,7 +73,7 @@ impl<T: Copy> Few<T> {
     ghost use Rattle.free_table.specs.Table.{listed};
 
     // The values.
-    pub fn items(&self) -> &[T]
+    pub fn as_slice(&self) -> &[T]
         requires { self.now.count ≤ 16 }
         ensures { result.now ≡ listed self.now }
     {
@@ -156,7 +156,7 @@ fn targets_rise(table: &[TargetRecord]) -> bool
 {
     let mut from: u32 = 0;
     for r in table {
-        if r.target < from || 65534 < r.target {
+        if !scanning::target_ok(from, *r) {
             return false;
         }
         from = r.target + 1;

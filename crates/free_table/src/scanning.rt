@@ -55,11 +55,14 @@ pub fn refused_scan(refusal: Refusal) -> Scan
     }
 }
 
+// The highest target.
+const LAST_TARGET: u32 = 65534;
+
 // May this target be here: is it at least `from` and at most 65,534?
-fn target_ok(from: u32, r: TargetRecord) -> bool
+pub fn target_ok(from: u32, r: TargetRecord) -> bool
     ensures { result ≡ target_ok from r }
 {
-    from <= r.target && r.target <= 65534
+    from <= r.target && r.target <= LAST_TARGET
 }
 
 // Is the target one of these?
@@ -95,8 +98,8 @@ fn tell(s: Scan, r: TargetRecord) -> Scan
     ensures { result ≡ told s r }
 {
     let mut low = s.low;
-    tell_lows(&mut low, s.asked.items(), r.target, r.free_below(s.mark));
-    let may = is_eligible(s.mark, s.left_out.items(), r);
+    tell_lows(&mut low, s.asked.as_slice(), r.target, r.free_below(s.mark));
+    let may = is_eligible(s.mark, s.left_out.as_slice(), r);
     Scan {
         low,
         choice: s.choice.after(s.wanted, may, r),

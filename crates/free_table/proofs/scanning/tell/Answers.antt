@@ -8,8 +8,8 @@ returns c =
     rw (
       c.after.ensures,
       c.is_eligible-may.ensures,
-      c.items-2.ensures,
+      c.as_slice-2.ensures,
       c.tell_lows.ensures,
-      c.items.ensures,
+      c.as_slice.ensures,
       c.free_below.ensures,
     )

@@ -24,16 +24,19 @@ pub record Refused (pages : List ℕ) (n : ℕ) : Type 1 where
   pub number : (own : ℕ) → n ≡ reading_first pages own
   pub lent : {A : Type 0} (own : ℕ) (new lent : A) → lent ≡ lent_after (reading_first pages own) new lent
 
-pub refused_by : {pages : List ℕ} (e : Refusal) → number_of e ≡ (host_reading pages).refusal → Refused pages (number_of e)
+pub refused_by : {pages : List ℕ} (e : Refusal) → number_of e ≡ (host_reading pages).refusal
+    → Refused pages (number_of e)
 refused_by {pages} e f =
     let number : (own : ℕ) → number_of e ≡ reading_first pages own =
     λ own. f ∙ reading_number pages own (λ z. omega (arith, number_pos e, f, z)) in
     record {
       number = number;
-      lent = λ own new lent. lent_stays (reading_first pages own) new lent (λ z. omega (arith, number_pos e, number own, z));
+      lent = λ own new lent. lent_stays (reading_first pages own) new lent
+          (λ z. omega (arith, number_pos e, number own, z));
     }
 
-pub found_refused : {pages : List ℕ} {e : Refusal} {places : List ℕ} → Finds pages (Err e) places → Refused pages (number_of e)
+pub found_refused : {pages : List ℕ} {e : Refusal} {places : List ℕ} → Finds pages (Err e) places
+    → Refused pages (number_of e)
 found_refused {pages} {e} f = refused_by e (finds_number f)
 
 module _ {pages : List ℕ} {r : Found} {places : List ℕ} (f : Finds pages (Ok r) places) where

@@ -1,5 +1,5 @@
--- Laws of the host's growth: growth of the table that was loaded from words is growth of the table of the words, and what the
--- host's call comes to by what is known on the way.
+-- Laws of the host's growth: growth of the table that was loaded from words is growth of the table of the words, and
+-- what the host's call comes to by what is known on the way.
 use Prim.Native.Nat.{ℕ, zero, suc, ◌*◌, ◌≤◌, ◌<◌}
 use Rattle.std.specs.Prelude.{◌≡◌, List, [], ◌∷◌, true, false, cond, leb, length, Result}
 use Rattle.std.proofs.Math.Path.{refl}
@@ -24,7 +24,8 @@ use Rattle.growth.specs.declared.Grown.{Grown}
 use Rattle.growth.specs.Answers.{call_of, GrownSays}
 use Rattle.gateway.specs.Host.{host_reading, host_layout, lent_after}
 use Rattle.gateway.proofs.HostLaws.{host_valid, own_number}
-use Rattle.gateway.specs.HostGrowth.{word_table, with_next_words, host_grown, pages_of, room_number, later_number, grow_number}
+use Rattle.gateway.specs.HostGrowth.{word_table, with_next_words, host_grown, pages_of, room_number, later_number}
+use Rattle.gateway.specs.HostGrowth.{grow_number}
 use Rattle.gateway.specs.HostGrowth.{home_number, table_after, grown_after, answer_after}
 use Rattle.gateway.specs.LentWords.{first_held, StepSays}
 use Rattle.gateway.specs.WordLaws.{own_words, raised_words, held_ok, held_good, good_words}
@@ -48,7 +49,8 @@ call_length l k =
     ∙ length_raised (usable k.mark) (length c.objects) k.table)
     (call_table l k)
 
--- The words afterwards hold the table that growth gives: nothing of it but the next numbers differs from the words before.
+-- The words afterwards hold the table that growth gives: nothing of it but the next numbers differs from the words
+-- before.
 pub words_afterwards : (l : Layout) (offset mark : ℕ) (ws : List ℕ)
     → (let rs = (grow_of l (record { offset = offset; mark = mark; table = word_table ws })).table in
     word_table (with_next_words ws rs) ≡ rs)
@@ -59,7 +61,8 @@ words_afterwards l offset mark ws =
     (raised_words (usable mark) (length c.objects) ws (good_words ws c.why.table).1))
     (call_table l k)
 
-module _ (l : Layout) (offset mark : ℕ) (ws : List ℕ) (v : valid l ≡ true) (r : Result Grown Refusal) (rs : List TargetRecord)
+module _ (l : Layout) (offset mark : ℕ) (ws : List ℕ) (v : valid l ≡ true) (r : Result Grown Refusal)
+    (rs : List TargetRecord)
     (given : GrownSays l r rs (grow_in l (call_of offset mark (first_held 65 ws)))) where
   -- The call with the table of the words, and what it gives.
   abbrev asked : Call

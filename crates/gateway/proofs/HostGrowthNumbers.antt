@@ -16,13 +16,15 @@ use Rattle.growth_rules.proofs.CallLaws.{refused_some}
 use Rattle.growth.specs.declared.Grown.{Grown}
 use Rattle.growth.specs.Answers.{call_of, GrownSays}
 use Rattle.gateway.specs.Host.{host_reading, lent_after}
-use Rattle.gateway.specs.HostGrowth.{word_table, with_next_words, host_grown, pages_of, room_number, later_number, home_number}
+use Rattle.gateway.specs.HostGrowth.{word_table, with_next_words, host_grown, pages_of, room_number, later_number}
+use Rattle.gateway.specs.HostGrowth.{home_number}
 use Rattle.gateway.specs.LentWords.{held_record, first_held}
 use Rattle.gateway.proofs.HostGrowthLaws as laws
 use Rattle.gateway.proofs.HostGrowthLaws.{Stated}
 
 -- The records after growth of those that were loaded have places in a table of 65.
-pub step_few : (l : Layout) (offset mark : ℕ) (ws : List ℕ) → valid l ≡ true → (r : Result Grown Refusal) (rs : List TargetRecord)
+pub step_few : (l : Layout) (offset mark : ℕ) (ws : List ℕ) → valid l ≡ true
+    → (r : Result Grown Refusal) (rs : List TargetRecord)
     → GrownSays l r rs (grow_in l (call_of offset mark (first_held 65 ws))) → length rs ≤ 65
 step_few l offset mark ws v r rs given =
     let k = call_of offset mark (first_held 65 ws) in
@@ -58,11 +60,13 @@ module _ (s : List ℕ) (offset mark : ℕ) (ws bs ns : List ℕ) where
     pub results_given : (l : Layout) (t : Table) (home : ℕ) → later_number out.answer 0 ≡ 0 → l ≡ out.layout
         → table_of t ≡ out.table → home ≡ home_number out.answer → (r : ℕ) (words bytes numbers : List ℕ)
         → (let n = room_number l (length bs) in
-        (r ≡ n) × (words ≡ lent_after n (with_next_words ws (table_of t)) ws) × (bytes ≡ lent_after n (sets bs 0 (pages_of l)) bs)
+        (r ≡ n) × (words ≡ lent_after n (with_next_words ws (table_of t)) ws)
+        × (bytes ≡ lent_after n (sets bs 0 (pages_of l)) bs)
         × (numbers ≡ lent_after n (sets ns 0 (length (pages_of l) ∷ home ∷ [])) ns))
         → Stated s offset mark ws bs ns r words bytes numbers
     results_given l t home z same_layout same_table same_home r words bytes numbers given =
         let a = growth_accepted z in
         let told = same_home ∙ ap home_number a.1 in
-        laws.results_given s offset mark ws bs ns read a.0 (sym a.1) l (table_of t) same_layout same_table r words bytes numbers
+        laws.results_given s offset mark ws bs ns read a.0 (sym a.1) l (table_of t) same_layout same_table r words bytes
+        numbers
         (rw told at given)

@@ -42,7 +42,8 @@ lent_stays zero new lent h = absurd (h refl)
 lent_stays (suc n) new lent h = refl
 
 -- The lent numbers after a call that cuts, and the lent bytes after one that writes a page, in this form.
-pub room_lent : (n : ℕ) (ps : List Piece) (room : List ℕ) → room_after n ps room ≡ lent_after n (sets room 0 (all_numbers ps)) room
+pub room_lent : (n : ℕ) (ps : List Piece) (room : List ℕ)
+    → room_after n ps room ≡ lent_after n (sets room 0 (all_numbers ps)) room
 unfolding room_after lent_after
 room_lent zero ps room = refl
 room_lent (suc n) ps room = refl
@@ -55,19 +56,28 @@ buffer_lent (suc n) page buffer = refl
 -- If the pages are read without a refusal, each call answers as the library's call of that name does of the layout that
 -- was read.
 module _ (pages : List ℕ) (z : (host_reading pages).refusal ≡ 0) where
-  pub lookup_same : (b : ℕ) → lookup_of b (host_layout pages) ≡ answer (lookup_number pages b) (home_of b (host_components pages))
+  pub lookup_same : (b : ℕ) → lookup_of b (host_layout pages)
+      ≡ answer (lookup_number pages b) (home_of b (host_components pages))
   unfolding lookup_of lookup_number
   lookup_same b = rw (host_valid pages z, own_number pages (lookup_refusal b (host_components pages)) z)
 
-  pub back_same : (h : Home) → back_of h (host_layout pages) ≡ answer (back_number pages h) (byte_of h (host_components pages))
+  pub back_same : (h : Home) → back_of h (host_layout pages)
+      ≡ answer (back_number pages h) (byte_of h (host_components pages))
   unfolding back_of back_number
   back_same h = rw (host_valid pages z, own_number pages (back_refusal h (host_components pages)) z)
 
   pub cut_same : (a m : ℕ) (room : List ℕ)
-      → cut_of a m (length room) (host_layout pages) ≡ answer (cut_number pages a m room) (cut_count a m (host_components pages))
+      → cut_of a m (length room) (host_layout pages) ≡ answer (cut_number pages a m room)
+      (cut_count a m (host_components pages))
   unfolding cut_of cut_number
-  cut_same a m room = rw (host_valid pages z, own_number pages (cut_refusal a m (length room) (host_components pages)) z)
+  cut_same a m room = rw (
+    host_valid pages z,
+    own_number pages (cut_refusal a m (length room) (host_components pages))
+        z,
+  )
 
-  pub page_same : (k : ℕ) (buffer : List ℕ) → out_refusal (host_layout pages) k (length buffer) ≡ page_number pages k buffer
+  pub page_same : (k : ℕ) (buffer : List ℕ) → out_refusal (host_layout pages) k (length buffer)
+      ≡ page_number pages k buffer
   unfolding out_refusal page_number
-  page_same k buffer = rw (host_valid pages z) (sym (own_number pages (write_refusal (host_layout pages) k (length buffer)) z))
+  page_same k buffer = rw (host_valid pages z) (sym (own_number pages
+      (write_refusal (host_layout pages) k (length buffer)) z))

@@ -18,12 +18,14 @@ written_says (Err n) = refuses n
 
 module _ {A B : Type 0} (put : A → B) (lent : B) where
   -- Both of an answer that is known to be y.
-  pub stored_case : {x y : Answer A} → x ≡ y → (answer_number y ≡ answer_number x) × (stored_in put y lent ≡ stored_in put x lent)
+  pub stored_case : {x y : Answer A} → x ≡ y → (answer_number y ≡ answer_number x)
+      × (stored_in put y lent ≡ stored_in put x lent)
   stored_case e = (sym (ap answer_number e), sym (ap (λ (z : Answer A). stored_in put z lent) e))
 
   -- The answer under a number: that is the number, and the lent place is as it is after a call of that number.
   pub stored_as : (n : ℕ) (a : A) (x : Answer A) (r : ℕ) (after : B)
-      → (r ≡ answer_number x) × (after ≡ stored_in put x lent) → x ≡ answer n a → (r ≡ n) × (after ≡ lent_after n (put a) lent)
+      → (r ≡ answer_number x) × (after ≡ stored_in put x lent) → x ≡ answer n a → (r ≡ n)
+      × (after ≡ lent_after n (put a) lent)
   unfolding stored_in lent_after
   stored_as zero a x r after s e = (s.0 ∙ rw e, s.1 ∙ rw e)
   stored_as (suc n) a x r after s e = (s.0 ∙ rw e, s.1 ∙ rw e)

@@ -13,7 +13,11 @@ use Rattle.gateway.specs.WordLaws.{held_ok, held_good}
 
 -- The table of words in memory: the first 65 records in their places, the rest of the places blank.
 unfoldable pub loaded_words : List ℕ → Table
-loaded_words ws = record { count = length (first_held 65 ws); records = sets (replicate 65 no_record) 0 (first_held 65 ws) }
+loaded_words ws = record {
+  count = length (first_held 65 ws);
+  records =
+      sets (replicate 65 no_record) 0 (first_held 65 ws);
+}
 
 -- The records of the table that was loaded.
 pub loaded_table : (ws : List ℕ) → table_of (loaded_words ws) ≡ first_held 65 ws

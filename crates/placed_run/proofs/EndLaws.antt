@@ -14,8 +14,10 @@ use Rattle.placed_run.specs.Found.{Finds}
 use Rattle.placed_run.proofs.FoundLaws as laws
 
 -- A reading in place that has come to its end, with components that are distinct, and the number of its end.
-module _ (s : List ℕ) (p : Progress) (places : List ℕ) (k : InRange s p places) (n : ℕ) (e : placed_of n p places ≡ placed_run s) where
-  module _ (d : distinct_hold (components_at s (take p.count places)) ≡ true) (m : ℕ) (f : m ≡ end_refusal s (placed_of n p places)) where
+module _ (s : List ℕ) (p : Progress) (places : List ℕ) (k : InRange s p places) (n : ℕ)
+    (e : placed_of n p places ≡ placed_run s) where
+  module _ (d : distinct_hold (components_at s (take p.count places)) ≡ true) (m : ℕ)
+      (f : m ≡ end_refusal s (placed_of n p places)) where
     -- The reading is refused for another reason,
     pub finds_refused : (r : Refusal) → number_of r ≡ m → Finds s (Err r) places
     finds_refused r q = laws.finds_none s p places k n e r (q ∙ f ∙ sym (laws.same s p places k n e d))

@@ -1,5 +1,6 @@
 -- What each public call answers, by the number of its first refusal and by the cases of its answer.
-use Rattle.std.specs.Prelude.{ℕ, zero, suc, ◌+◌, ◌^◌, ◌<◌, ◌≡◌, refl, Ok, Err, List, ◌++◌, ◌↔◌, true, false, cond, ◌&&◌, leb, ltb, length}
+use Rattle.std.specs.Prelude.{ℕ, zero, suc, ◌+◌, ◌^◌, ◌<◌, ◌≡◌, refl, Ok, Err, List, ◌++◌, ◌↔◌, true, false, cond, ◌&&◌}
+use Rattle.std.specs.Prelude.{leb, ltb, length}
 use Rattle.std.proofs.Common.{sym, ap, ◌∙◌, arith, ltb-true}
 use Rattle.std.proofs.Math.Option.{some}
 use Rattle.std.proofs.lemmas.List.Edits.{sets}
@@ -36,7 +37,8 @@ use Rattle.mapping.specs.Homes.{Home, in_object, home_of, is_given}
 use Rattle.mapping.specs.Lookup.{lookup_refusal, home_says, lookup_says, lookup_of}
 use Rattle.mapping.specs.Back.{owner, file_byte_in, hidden_refusal, back_refusal, byte_of, back_says, back_of}
 use Rattle.mapping.proofs.BackLaws.{looked_up_back, back_looked_up}
-use Rattle.mapping.specs.Cutting.{refusal_by, cut_refusal, cut_pieces, cut_count, all_numbers, room_after, cut_says, cut_of}
+use Rattle.mapping.specs.Cutting.{refusal_by, cut_refusal, cut_pieces, cut_count, all_numbers, room_after, cut_says}
+use Rattle.mapping.specs.Cutting.{cut_of}
 use Rattle.mapping.specs.CutFacts.{Cut}
 use Rattle.mapping.proofs.CutTheorem.{cut_right}
 use Rattle.free_table.specs.Table.{table_ok}
@@ -115,7 +117,11 @@ back_number_lem l o p = (
 
 pub cut_number_lem : (l : Layout) (a m n : ℕ) → IsFirst (answer_number (cut_of a m n l)) (cut_numbers l a m n)
 unfolding cut_of refusal_by
-cut_number_lem l a m n = (refl, answer_under (checked l (cut_refusal a m n (view l))) _ ∙ refused_unless (valid l) 1 refl)
+cut_number_lem l a m n = (
+  refl,
+  answer_under (checked l (cut_refusal a m n (view l))) _
+      ∙ refused_unless (valid l) 1 refl,
+)
 
 pub growth_number : (l : Layout) (k : Call) → IsFirst (answer_number (grow_of l k).answer) (growth_numbers l k)
 growth_number l k = (
@@ -177,7 +183,8 @@ lookup_says_lem l b = (
     λ e. let v = lookup_valid l b (home_says h) (sym e) in (v, (lookup_gives l v b (home_says h)).0 (sym e)),
     λ p. sym ((lookup_gives l p.0 b (home_says h)).1 p.1),
   ),
-  λ e. refused_exactly (lookup_of b l) (lookup_numbers l b) (lookup_number_lem l b) (lookup_some_number l b) (code_number e),
+  λ e. refused_exactly (lookup_of b l) (lookup_numbers l b) (lookup_number_lem l b) (lookup_some_number l b)
+      (code_number e),
 )
 
 -- A byte that is not hidden is below 2^64.
@@ -217,7 +224,8 @@ back_some_number l h n e = answer_some (checked l (back_refusal h (view l))) (by
 pub back_says_lem : (l : Layout) (o : Object) (p : ℕ)
     → ((b : ℕ) → (back_says (Ok b) ≡ back_of (in_object o p) l)
     ↔ ((valid l ≡ true) × (b < 2 ^ 64) × (home_of b (view l) ≡ some (in_object o p))))
-    × ((e : code.Refusal) → (back_says (Err e) ≡ back_of (in_object o p) l) ↔ RefusedBy (code_number e) (back_numbers l o p))
+    × ((e : code.Refusal) → (back_says (Err e) ≡ back_of (in_object o p) l) ↔ RefusedBy (code_number e)
+    (back_numbers l o p))
 unfolding back_says
 back_says_lem l o p =
     let h = in_object o p in (
@@ -226,7 +234,8 @@ back_says_lem l o p =
             (v.0, v.1, (lookup_gives l v.0 b h).0 (back_looked_up l h b (sym e))),
         λ q. sym (looked_up_back l b h q.1 ((lookup_gives l q.0 b h).1 q.2)),
       ),
-      λ e. refused_exactly (back_of h l) (back_numbers l o p) (back_number_lem l o p) (back_some_number l h) (code_number e),
+      λ e. refused_exactly (back_of h l) (back_numbers l o p) (back_number_lem l o p) (back_some_number l h)
+          (code_number e),
     )
 
 -- Under 0 the lent numbers hold the pieces.

@@ -1,5 +1,6 @@
 -- The laws of refusal numbers: what the first number means, and the numbers that the calls' definitions give.
-use Rattle.std.specs.Prelude.{ℕ, zero, suc, ◌^◌, ◌<◌, ◌≡◌, refl, List, [], ◌∷◌, ◌↔◌, ◌⊎◌, Bool, true, false, not, cond, ◌&&◌, ◌||◌, leb, ltb, eqb, length}
+use Rattle.std.specs.Prelude.{ℕ, zero, suc, ◌^◌, ◌<◌, ◌≡◌, refl, List, [], ◌∷◌, ◌↔◌, ◌⊎◌, Bool, true, false, not, cond}
+use Rattle.std.specs.Prelude.{◌&&◌, ◌||◌, leb, ltb, eqb, length}
 use Rattle.std.proofs.Common.{sym, ◌∙◌, inl, inr, ⊎_elim, arith, leb-true, leb-false, lt-ltb, le-ltb}
 use Rattle.std.proofs.lemmas.Bool.{eqb-false, not-true}
 use Rattle.lists.specs.Bools.{bool_cases, both_true, both_false}
@@ -40,7 +41,8 @@ not_listed n (r ∷ rs) e (suc i) h q =
     not_listed n rs (both_false (eqb n r.number) (has n rs) e).1 i (omega arith) q
 
 -- What is given is 0, or the number of a refusal of the list.
-first_listed : (rs : List Refusal) → (first rs ≡ 0) ⊎ ((i : ℕ) × (i < length rs) × (first rs ≡ (refusal_at rs i).number))
+first_listed : (rs : List Refusal) → (first rs ≡ 0) ⊎ ((i : ℕ) × (i < length rs)
+    × (first rs ≡ (refusal_at rs i).number))
 first_listed [] = inl refl
 first_listed (r ∷ rs) =
     bool_cases r.applies (λ e. inr (0, omega arith, rw e))

@@ -96,7 +96,8 @@ lookup = calls.lookup_says_lem
 pub back : (l : Layout) (o : Object) (p : ℕ)
     → ((b : ℕ) → (back_says (Ok b) ≡ back_of (in_object o p) l)
     ↔ ((valid l ≡ true) × (b < 2 ^ 64) × (home_of b (view l) ≡ some (in_object o p))))
-    × ((e : code.Refusal) → (back_says (Err e) ≡ back_of (in_object o p) l) ↔ RefusedBy (code_number e) (back_numbers l o p))
+    × ((e : code.Refusal) → (back_says (Err e) ≡ back_of (in_object o p) l) ↔ RefusedBy (code_number e)
+    (back_numbers l o p))
 back = calls.back_says_lem
 
 -- "Cutting: 1, 9 to 12." "Pieces stand in file order and together are the request": the fields of `Cut` say this, that

@@ -1,5 +1,6 @@
--- The promises on refusals, of every number: beside those of `Promises` and `PromisesForC`, which speak of the refusals of the code.
--- `Promises` says how to read it. An answer is refused by a number that is no refusal's under no condition.
+-- The promises on refusals, of every number: beside those of `Promises` and `PromisesForC`, which speak of the refusals
+-- of the code. `Promises` says how to read it. An answer is refused by a number that is no refusal's under no
+-- condition.
 use Rattle.std.specs.Prelude.{ℕ, ◌≡◌, Err, List, ◌↔◌, false, length}
 use Rattle.std.proofs.Common.{sym, ◌∙◌}
 use Rattle.layout.specs.declared.Object.{Object}
@@ -15,7 +16,8 @@ use Rattle.growth_rules.specs.Steps.{Call}
 use Rattle.growth_rules.specs.Growing.{grow_of}
 use Rattle.growth_rules.specs.CallFacts.{Leaves}
 use Rattle.growth_rules.proofs.CallLaws.{refused_some, refusal_leaves}
-use Rattle.gateway.specs.Host.{host_reading, host_layout, host_components, lookup_number, home_after, back_number, offset_after}
+use Rattle.gateway.specs.Host.{host_reading, host_layout, host_components, lookup_number, home_after, back_number}
+use Rattle.gateway.specs.Host.{offset_after}
 use Rattle.gateway.specs.Host.{cut_number}
 use Rattle.gateway.proofs.HostLaws.{lookup_same, back_same, cut_same, page_same}
 use Rattle.gateway.specs.HostGrowth.{host_grown}
@@ -29,7 +31,8 @@ use Rattle.promises.proofs.CallLaws as calls
 -- A lookup is refused by n exactly if n is the first number of its call that applies.
 pub lookup_refused : (l : Layout) (b n : ℕ) → (refuses n ≡ lookup_of b l) ↔ RefusedBy n (lookup_numbers l b)
 lookup_refused l b =
-    calls.refused_exactly (lookup_of b l) (lookup_numbers l b) (calls.lookup_number_lem l b) (calls.lookup_some_number l b)
+    calls.refused_exactly (lookup_of b l) (lookup_numbers l b) (calls.lookup_number_lem l b)
+    (calls.lookup_some_number l b)
 
 -- So is a way back,
 pub back_refused : (l : Layout) (o : Object) (p n : ℕ)
@@ -43,7 +46,8 @@ pub cut_refused : (l : Layout) (a m : ℕ) (room : List ℕ) (n : ℕ)
     → ((refuses n ≡ cut_of a m (length room) l) ↔ RefusedBy n (cut_numbers l a m (length room)))
     × (refuses n ≡ cut_of a m (length room) l → cut_room l a m room ≡ room)
 cut_refused l a m room n = (
-  calls.refused_exactly (cut_of a m (length room) l) (cut_numbers l a m (length room)) (calls.cut_number_lem l a m (length room))
+  calls.refused_exactly (cut_of a m (length room) l) (cut_numbers l a m (length room))
+      (calls.cut_number_lem l a m (length room))
       (calls.cut_some_number l a m room) n,
   calls.cut_refused l a m room n,
 )
@@ -62,18 +66,21 @@ pub outstanding_page : (c : Collector) → c.layout.complete ≡ false → (k ro
     → out_answer (out_refusal c.layout k room) (written_page c.layout k) ≡ Err 1
 outstanding_page c e k room = page_refuses c.layout (not_valid c.layout e) k room
 
--- The entry points for C, if the reading is not refused: a call that is refused by n returns n, and leaves all that is lent.
+-- The entry points for C, if the reading is not refused: a call that is refused by n returns n, and leaves all that is
+-- lent.
 module _ (pages : List ℕ) (z : (host_reading pages).refusal ≡ 0) where
   pub c_lookup_refused : (b : ℕ) (home : List ℕ) (n : ℕ) → refuses n ≡ lookup_of b (host_layout pages)
       → (lookup_number pages b ≡ n) × (home_after pages b home ≡ home)
   c_lookup_refused b home n e =
-      let u = host.refuses_under n (lookup_number pages b) (home_of b (host_components pages)) (e ∙ lookup_same pages z b) in
+      let u = host.refuses_under n (lookup_number pages b) (home_of b (host_components pages))
+      (e ∙ lookup_same pages z b) in
       host.lookup_kept pages b home n u.1 u.0
 
   pub c_back_refused : (h : Home) (offset n : ℕ) → refuses n ≡ back_of h (host_layout pages)
       → (back_number pages h ≡ n) × (offset_after pages h offset ≡ offset)
   c_back_refused h offset n e =
-      let u = host.refuses_under n (back_number pages h) (byte_of h (host_components pages)) (e ∙ back_same pages z h) in
+      let u = host.refuses_under n (back_number pages h) (byte_of h (host_components pages)) (e ∙ back_same pages z h)
+      in
       host.back_kept pages h offset n u.1 u.0
 
   pub c_cut_refused : (a m : ℕ) (room : List ℕ) (count n : ℕ) → refuses n ≡ cut_of a m (length room) (host_layout pages)

@@ -28,7 +28,8 @@ cut_past = past_asked
 
 -- and 11 that some byte asked for lies in a component that is not init.
 pub cut_not_init : (a b : ℕ) (cs : List Component)
-    → (any_of (not_init_asked a b) (spans_of cs) ≡ true) ↔ ((q : ℕ) × (a ≤ q) × (q < b) × (any_of (not_init_at q) cs ≡ true))
+    → (any_of (not_init_asked a b) (spans_of cs) ≡ true) ↔ ((q : ℕ) × (a ≤ q) × (q < b)
+    × (any_of (not_init_at q) cs ≡ true))
 cut_not_init = not_init_asked_lem
 
 -- A request that is refused leaves the lent numbers as they were.

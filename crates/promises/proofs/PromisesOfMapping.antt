@@ -1,6 +1,6 @@
 -- The promises on homes and the way back, beside `lookup` and `back` of `Promises`, which says how to read this. The
--- contract of `moorsickle::lookup` is `lookup_says r ≡ lookup_of b l`, that of `back` `back_says r ≡ back_of h l`. What is
--- in quotes is document 01's.
+-- contract of `moorsickle::lookup` is `lookup_says r ≡ lookup_of b l`, that of `back` `back_says r ≡ back_of h l`. What
+-- is in quotes is document 01's.
 use Rattle.std.specs.Prelude.{ℕ, ◌^◌, ◌<◌, ◌≡◌, List, ◌↔◌, true}
 use Rattle.std.proofs.Math.Option.{Option, some}
 use Rattle.layout.specs.declared.Object.{Object}
@@ -42,7 +42,8 @@ pub lookup_some : (l : Layout) (b : ℕ) (o : Option Home) → lookup_of b l ≡
 lookup_some = looking.lookup_some
 
 -- back from what a lookup gives is the byte;
-pub back_of_lookup : (l : Layout) (b : ℕ) (h : Home) → b < 2 ^ 64 → lookup_of b l ≡ gives (some h) → back_of h l ≡ gives b
+pub back_of_lookup : (l : Layout) (b : ℕ) (h : Home) → b < 2 ^ 64 → lookup_of b l ≡ gives (some h)
+    → back_of h l ≡ gives b
 back_of_lookup = looked_up_back
 
 -- and lookup of what back gives is the home.

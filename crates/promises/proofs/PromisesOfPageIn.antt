@@ -1,6 +1,6 @@
 -- The promises on pages in and the layout out of a collector, beside those of `Promises`, which says how to read this.
--- The contracts of `moorsickle::take_page` and `layout_of` give `page_in` and `layout_out`. What is in quotes is document
--- 01's.
+-- The contracts of `moorsickle::take_page` and `layout_of` give `page_in` and `layout_out`. What is in quotes is
+-- document 01's.
 use Rattle.std.specs.Prelude.{ℕ, ◌≤◌, ◌<◌, ◌≡◌, Ok, List, true, false, cond, length}
 use Rattle.layout.specs.Records.{packed, no_layout}
 use Rattle.layout.specs.Facts.{Keeps}

@@ -20,19 +20,18 @@ returns-in_err-placed c =
 pub returns-in_err-offset : goal.returns-in_err-offset
 unfolding back_number offset_after back_in back_says
 returns-in_err-offset c =
-    let r = c.from_residual-in_err-offset in
-    let p = err_from_is_err_and r.result r.ensures.1 in
-    let read = c.in_ok-placed.ensures in
+    let p = err_from_is_err_and c.from_residual-in_err-offset.result c.from_residual-in_err-offset.ensures.1 in
     let home = in_object (object_of c.args.target c.args.number) c.args.byte in
     rw (p.1, p.2) (refused_kept (λ (n : ℕ). n) c.args.offset.now _ _ _
-    (read_answer c.args.pages.now _ (back_refusal home) (byte_of home) (sym read.number) read.placed
+    (read_answer c.args.pages.now _ (back_refusal home) (byte_of home) (sym c.in_ok-placed.ensures.number)
+    c.in_ok-placed.ensures.placed
     c.in_err-offset.ensures))
 
 pub returns : goal.returns
 unfolding back_number offset_after back_in back_says
 returns c =
-    let read = c.in_ok-placed.ensures in
     let home = in_object (object_of c.args.target c.args.number) c.args.byte in
     given_stored (λ (n : ℕ). n) c.args.offset.now _ _ _
-    (read_answer c.args.pages.now _ (back_refusal home) (byte_of home) (sym read.number) read.placed
+    (read_answer c.args.pages.now _ (back_refusal home) (byte_of home) (sym c.in_ok-placed.ensures.number)
+    c.in_ok-placed.ensures.placed
     c.in_ok-offset.ensures)

@@ -1,5 +1,5 @@
--- `gateway::cut` meets its contract: a refusal of the reading comes first; else `cut` writes the pieces by the components
--- at the places found, and their number is stored.
+-- `gateway::cut` meets its contract: a refusal of the reading comes first; else `cut` writes the pieces by the
+-- components at the places found, and their number is stored.
 use Rattle.std.proofs.Common.{sym, ℕ, ◌∙◌, length}
 use Rattle.std.proofs.lemmas.Result.{err_from_is_err_and}
 use Rattle.mapping.specs.Cutting.{cut_refusal, cut_count, cut_in, cut_says}
@@ -19,34 +19,31 @@ returns-in_err-read_placed c =
 pub returns-in_err-count : goal.returns-in_err-count
 unfolding cut_number pieces_after count_after cut_in cut_says
 returns-in_err-count c =
-    let r = c.from_residual-in_err-count in
-    let p = err_from_is_err_and r.result r.ensures.1 in
-    let a = c.args in
+    let p = err_from_is_err_and c.from_residual-in_err-count.result c.from_residual-in_err-count.ensures.1 in
     let read = c.in_ok-read_placed.ensures in
-    let pages = a.pages.now in
-    let room = a.room.now in
-    let refusal = cut_refusal a.offset a.length (length room) in
+    let pages = c.args.pages.now in
+    let refusal = cut_refusal c.args.offset c.args.length (length c.args.room.now) in
     let own = own_number pages (refusal (host_components pages)) (sym read.number) in
-    let kept = refused_kept (λ (n : ℕ). n) a.count.now _ _ _
-    (read_answer pages _ refusal (cut_count a.offset a.length) (sym read.number) read.placed c.in_err-count.ensures.0) in
+    let kept = refused_kept (λ (n : ℕ). n) c.args.count.now _ _ _
+    (read_answer pages _ refusal (cut_count c.args.offset c.args.length) (sym read.number) read.placed
+    c.in_err-count.ensures.0) in
     rw (p.1, p.2) (
       kept.0,
-      rw (own, ← read.placed) (c.in_err-count.ensures.1 ∙ room_lent _ _ room),
+      rw (own, ← read.placed) (c.in_err-count.ensures.1 ∙ room_lent _ _ c.args.room.now),
       kept.1,
     )
 
 pub returns : goal.returns
 unfolding cut_number pieces_after count_after cut_in cut_says
 returns c =
-    let a = c.args in
     let read = c.in_ok-read_placed.ensures in
-    let pages = a.pages.now in
-    let room = a.room.now in
-    let refusal = cut_refusal a.offset a.length (length room) in
+    let pages = c.args.pages.now in
+    let refusal = cut_refusal c.args.offset c.args.length (length c.args.room.now) in
     let own = own_number pages (refusal (host_components pages)) (sym read.number) in
-    let stored = given_stored (λ (n : ℕ). n) a.count.now _ _ _
-    (read_answer pages _ refusal (cut_count a.offset a.length) (sym read.number) read.placed c.in_ok-count.ensures.0) in (
+    let stored = given_stored (λ (n : ℕ). n) c.args.count.now _ _ _
+    (read_answer pages _ refusal (cut_count c.args.offset c.args.length) (sym read.number) read.placed
+    c.in_ok-count.ensures.0) in (
       stored.0,
-      rw (own, ← read.placed) (c.in_ok-count.ensures.1 ∙ room_lent _ _ room),
+      rw (own, ← read.placed) (c.in_ok-count.ensures.1 ∙ room_lent _ _ c.args.room.now),
       stored.1,
     )

@@ -20,21 +20,18 @@ returns-in_err-read_placed c =
 pub returns-in_err-found : goal.returns-in_err-found
 unfolding lookup_number home_after lookup_in lookup_says
 returns-in_err-found c =
-    let r = c.from_residual-in_err-found in
-    let p = err_from_is_err_and r.result r.ensures.1 in
-    let read = c.in_ok-read_placed.ensures in
-    let b = c.args.offset in
+    let p = err_from_is_err_and c.from_residual-in_err-found.result c.from_residual-in_err-found.ensures.1 in
     rw (p.1, p.2) (refused_kept home_numbers c.args.home.now _ _ _
-    (read_answer c.args.pages.now _ (lookup_refusal b) (home_of b) (sym read.number) read.placed
+    (read_answer c.args.pages.now _ (lookup_refusal c.args.offset) (home_of c.args.offset)
+    (sym c.in_ok-read_placed.ensures.number) c.in_ok-read_placed.ensures.placed
     c.in_err-found.ensures))
 
 pub returns : goal.returns
 unfolding lookup_number home_after lookup_in lookup_says
 returns c =
-    let read = c.in_ok-read_placed.ensures in
-    let b = c.args.offset in
     let found = c.in_ok-found.found in
     let s = given_stored home_numbers c.args.home.now _ _ (some (home_says found))
-    (read_answer c.args.pages.now _ (lookup_refusal b) (home_of b) (sym read.number) read.placed
+    (read_answer c.args.pages.now _ (lookup_refusal c.args.offset) (home_of c.args.offset)
+    (sym c.in_ok-read_placed.ensures.number) c.in_ok-read_placed.ensures.placed
     c.in_ok-found.ensures) in
     (s.0, ap (λ (t : ℕ). t ∷ found.number ∷ found.byte ∷ []) c.from.ensures ∙ s.1)

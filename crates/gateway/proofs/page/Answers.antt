@@ -18,31 +18,27 @@ returns-in_err-l c =
 
 pub write_page-requires : goal.write_page-requires
 write_page-requires c =
-    let l = c.in_ok-l.ensures in
-    rw l.layout (host_valid c.args.pages.now (sym l.number))
+    rw c.in_ok-l.ensures.layout (host_valid c.args.pages.now (sym c.in_ok-l.ensures.number))
 
 pub returns-in_err-written : goal.returns-in_err-written
 unfolding page_number buffer_after written_after
 returns-in_err-written c =
-    let r = c.from_residual-in_err-written in
-    let p = err_from_is_err_and r.result r.ensures.1 in
-    let a = c.args in
+    let p = err_from_is_err_and c.from_residual-in_err-written.result c.from_residual-in_err-written.ensures.1 in
     let l = c.in_ok-l.ensures in
-    let number = write_refusal (host_layout a.pages.now) a.number (length a.buffer.now) in
-    let own = own_number a.pages.now number (sym l.number) in
+    let number = write_refusal (host_layout c.args.pages.now) c.args.number (length c.args.buffer.now) in
+    let own = own_number c.args.pages.now number (sym l.number) in
     let answer = rw l.layout at c.in_err-written.ensures.0 in
     let after = rw l.layout at c.in_err-written.ensures.1 in
-    let kept = page_kept a.written.now _ _ _ answer in
-    rw (p.1, p.2, own) (kept.0, after ∙ buffer_lent _ _ a.buffer.now, kept.1)
+    let kept = page_kept c.args.written.now _ _ _ answer in
+    rw (p.1, p.2, own) (kept.0, after ∙ buffer_lent _ _ c.args.buffer.now, kept.1)
 
 pub returns : goal.returns
 unfolding page_number buffer_after written_after
 returns c =
-    let a = c.args in
     let l = c.in_ok-l.ensures in
-    let number = write_refusal (host_layout a.pages.now) a.number (length a.buffer.now) in
-    let own = own_number a.pages.now number (sym l.number) in
+    let number = write_refusal (host_layout c.args.pages.now) c.args.number (length c.args.buffer.now) in
+    let own = own_number c.args.pages.now number (sym l.number) in
     let answer = rw l.layout at c.in_ok-written.ensures.0 in
     let after = rw l.layout at c.in_ok-written.ensures.1 in
-    let stored = page_stored a.written.now _ _ _ answer in
-    rw own (stored.0, after ∙ buffer_lent _ _ a.buffer.now, stored.1)
+    let stored = page_stored c.args.written.now _ _ _ answer in
+    rw own (stored.0, after ∙ buffer_lent _ _ c.args.buffer.now, stored.1)

@@ -21,46 +21,48 @@ returns-in_err-l c =
 
 pub grow_valid-requires : goal.grow_valid-requires
 grow_valid-requires c =
-    let l = c.in_ok-l.ensures in
-    rw l.layout (host_valid c.args.pages.now (sym l.number))
+    rw c.in_ok-l.ensures.layout (host_valid c.args.pages.now (sym c.in_ok-l.ensures.number))
 
 pub returns-in_err-step : goal.returns-in_err-step
 unfolding growth.grow_says
 returns-in_err-step c =
-    let r = c.from_residual-in_err-step in
-    let p = err_from_is_err_and r.result r.ensures.1 in
-    let a = c.args in
+    let p = err_from_is_err_and c.from_residual-in_err-step.result c.from_residual-in_err-step.ensures.1 in
     let l = c.in_ok-l.ensures in
-    let said = step_read a.pages.now a.offset a.low_mark a.table.now _ _ (sym l.number) l.layout c.load-n.ensures.1 _ _
+    let said = step_read c.args.pages.now c.args.offset c.args.low_mark c.args.table.now _ _ (sym l.number) l.layout
+    c.load-n.ensures.1 _ _
     c.in_err-step.ensures in
-    rw (p.1, p.2) (growth_refused a.pages.now a.offset a.low_mark a.table.now a.grown.now a.answer.now (sym l.number) _
+    rw (p.1, p.2) (growth_refused c.args.pages.now c.args.offset c.args.low_mark c.args.table.now c.args.grown.now
+    c.args.answer.now (sym l.number) _
     said.answer (number_pos _))
 
 pub give-requires : goal.give-requires
 unfolding growth.grow_says
 give-requires c =
-    let a = c.args in
     let l = c.in_ok-l.ensures in
-    let said = step_read a.pages.now a.offset a.low_mark a.table.now _ _ (sym l.number) l.layout c.load-n.ensures.1 _ _
+    let said = step_read c.args.pages.now c.args.offset c.args.low_mark c.args.table.now _ _ (sym l.number) l.layout
+    c.load-n.ensures.1 _ _
     c.in_ok-step.ensures in
     let rs = c.grow_valid.new.table in
     let n : length rs ≡ c.load-n.result =
     omega (arith, c.grow_valid.auto.table, length-take c.load-n.result c.load-n.new.records) in
-    let same : take c.load-n.result (rs ++ drop c.load-n.result c.load-n.new.records) ≡ rs = take_at rs _ c.load-n.result n in (
-      rw said.layout (grow_valid (host_layout a.pages.now) _ (host_valid a.pages.now (sym l.number))),
+    let same : take c.load-n.result (rs ++ drop c.load-n.result c.load-n.new.records) ≡ rs =
+    take_at rs _ c.load-n.result n in (
+      rw said.layout (grow_valid (host_layout c.args.pages.now) _ (host_valid c.args.pages.now (sym l.number))),
       rw same (said.table _ (sym said.answer)).1,
     )
 
 pub returns : goal.returns
 unfolding growth.grow_says
 returns c =
-    let a = c.args in
     let l = c.in_ok-l.ensures in
-    let said = step_read a.pages.now a.offset a.low_mark a.table.now _ _ (sym l.number) l.layout c.load-n.ensures.1 _ _
+    let said = step_read c.args.pages.now c.args.offset c.args.low_mark c.args.table.now _ _ (sym l.number) l.layout
+    c.load-n.ensures.1 _ _
     c.in_ok-step.ensures in
     let rs = c.grow_valid.new.table in
     let n : length rs ≡ c.load-n.result =
     omega (arith, c.grow_valid.auto.table, length-take c.load-n.result c.load-n.new.records) in
-    let same : take c.load-n.result (rs ++ drop c.load-n.result c.load-n.new.records) ≡ rs = take_at rs _ c.load-n.result n in
-    results_given a.pages.now a.offset a.low_mark a.table.now a.grown.now a.answer.now (sym l.number) _ said.answer _ _
+    let same : take c.load-n.result (rs ++ drop c.load-n.result c.load-n.new.records) ≡ rs =
+    take_at rs _ c.load-n.result n in
+    results_given c.args.pages.now c.args.offset c.args.low_mark c.args.table.now c.args.grown.now c.args.answer.now
+    (sym l.number) _ said.answer _ _
     said.layout (same ∙ (said.table _ (sym said.answer)).0) _ _ _ _ c.give.ensures

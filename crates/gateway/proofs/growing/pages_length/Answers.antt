@@ -15,15 +15,21 @@ overflow_add-bytes c =
 
 pub loop-k-preserved : goal.loop-k-preserved
 loop-k-preserved c =
-    let l = c.args.l in
-    let k = c.loop-k.k in
-    let w = page_wrote l k c.loop-k-test.true (replicate 512 0) c.in-Ok.n c.in-Ok.ensures.0 in
-    (omega arith, omega (arith, ap length w.2, length-append (written_page l k) (pages_from l (k + 1))))
+    let w = page_wrote c.args.l c.loop-k.k c.loop-k-test.true (replicate 512 0) c.in-Ok.n c.in-Ok.ensures.0 in (
+      omega arith,
+      omega (
+        arith,
+        ap length w.2,
+        length-append (written_page c.args.l c.loop-k.k)
+            (pages_from c.args.l (c.loop-k.k + 1)),
+      ),
+    )
 
 pub returns-after-loop-k : goal.returns-after-loop-k
 returns-after-loop-k c = omega (arith, ap length (pages_end c.args.l c.loop-k.k c.loop-k-test.false))
 
 pub returns-in_default : goal.returns-in_default
 returns-in_default c =
-    let m = page_missing c.args.l c.loop-k.k c.loop-k-test.true (replicate 512 0) _ (inr (omega arith)) c.in_default.ensures.0 in
+    let m = page_missing c.args.l c.loop-k.k c.loop-k-test.true (replicate 512 0) _ (inr (omega arith))
+    c.in_default.ensures.0 in
     omega (arith, ap length m.0)

@@ -175,12 +175,10 @@ pub fn table_ok(table: &[TargetRecord]) -> bool
 pub fn is_low(table: &[TargetRecord], mark: u64, target: u32) -> bool
     ensures { result ≡ is_low mark table.now target }
 {
-    for r in table {
-        if r.target == target {
-            return r.free_below(mark);
-        }
-    }
-    true
+    table
+        .iter()
+        .find(|r| r.target == target)
+        .is_none_or(|r| r.free_below(mark))
 }
 
 // Does one of the objects lie on a low target?

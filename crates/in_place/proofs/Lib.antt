@@ -2,3 +2,4 @@ pub mod FirstRecord
 pub mod FieldsAt
 pub mod Joined
 pub mod Records
+pub mod Targets

@@ -1,9 +1,9 @@
 -- The object records of the component at a position of a list of places.
 use Rattle.std.specs.Prelude.{ℕ, zero, suc, ◌+◌, ◌*◌, ◌<◌, ◌≤◌, min, ◌≡◌, List, length, get_or}
-use Rattle.std.proofs.Common.{ap, sym, ◌∙◌, arith}
+use Rattle.std.proofs.Common.{ap, ◌∙◌, arith}
 use Rattle.std.proofs.lemmas.List.{length-map, get_or-map}
 use Rattle.layout.specs.Records.{no_object, no_component, records_of}
-use Rattle.page.specs.Form.{records_at, component_end}
+use Rattle.page.specs.Form.{records_at}
 use Rattle.page.specs.Content.{object_at, objects_at, component_at}
 use Rattle.in_place.specs.Places.{components_at, Within}
 use Rattle.in_place.specs.RecordLaws.{component_records, records_length}

@@ -46,12 +46,7 @@ fn targets_ok(s: &[u8], at: usize, n: usize) -> bool
     requires { at + 16 * n ≤ length s.now }
     ensures { result ≡ every (each target_ok (objects_at n s.now at)) }
 {
-    for i in 0..n {
-        if 65534 < u32::read_at(s, at + 16 * i + 4) {
-            return false;
-        }
-    }
-    true
+    (0..n).all(|i| u32::read_at(s, at + 16 * i + 4) <= 65534)
 }
 
 // Does the component at the place keep the rules of the fields?

@@ -46,10 +46,7 @@ fn last_at(s: &[u8], places: &[usize]) -> Neighbour
     requires { Within s.now (length places.now) places.now }
     ensures { result ≡ last_of none_before (neighbours_of (components_at s.now places.now)) }
 {
-    match places.last() {
-        Some(at) => neighbour_at(s, *at),
-        None => NONE_BEFORE,
-    }
+    places.last().map_or(NONE_BEFORE, |at| neighbour_at(s, *at))
 }
 
 // Do the components at new places keep the rules of fields and of neighbours, asked in this order, after those at the

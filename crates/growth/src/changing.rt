@@ -29,12 +29,7 @@ pub fn planned_count(n: usize, p: Change) -> usize
     requires { (n ≤ 16) × (p.at + p.old ≤ n) }
     ensures { result ≡ n - p.old + replacement_count p }
 {
-    let others = n - p.old;
-    if p.left.is_some() {
-        others + 2
-    } else {
-        others + 1
-    }
+    n - p.old + 1 + usize::from(p.left.is_some())
 }
 
 // The layout with what the change puts in place of its `old` components. Its generation is one higher.

@@ -59,10 +59,7 @@ pub fn fresh_id(components: &[Component]) -> u16
     ensures { result ≡ fresh_id (ids_of components.now) }
 {
     let after = components.len() as u16 + 1;
-    for id in 1..after {
-        if !has_id(components, id) {
-            return id;
-        }
-    }
-    after
+    (1..after)
+        .find(|id| !has_id(components, *id))
+        .unwrap_or(after)
 }

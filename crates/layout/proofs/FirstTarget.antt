@@ -3,13 +3,9 @@ use Rattle.std.specs.Prelude.{◌≡◌, List, [], ◌∷◌, Some, None, Bool, 
 use Rattle.layout.specs.declared.Object.{Object}
 use Rattle.layout.specs.Fields.{is_target, first_target_ok}
 
-pub first_none : (init : Bool) (z : ℤ) (os : List Object) → init ≡ true → None ≡ slice_get os 0 → false ≡ first_target_ok init z os
+-- With no first record the answer is no, else what is asked of the first.
+pub first_if : (init : Bool) (z : ℤ) (os : List Object) (r : Bool) → init ≡ true → (None ≡ slice_get os 0 → r ≡ false)
+    → ((o : Object) → Some o ≡ slice_get os 0 → r ≡ is_target z o.target) → r ≡ first_target_ok init z os
 unfolding first_target_ok
-first_none init z [] k e = rw k
-first_none init z (o ∷ os) k e = absurd cc
-
-pub first_some : (init : Bool) (z : ℤ) (o : Object) (os : List Object) → init ≡ true → Some o ≡ slice_get os 0
-    → is_target z o.target ≡ first_target_ok init z os
-unfolding first_target_ok
-first_some init z o [] k e = absurd cc
-first_some init z o (p ∷ os) k e = let q : o ≡ p = cc in rw (k, q)
+first_if init z [] r k n s = rw k (n cc)
+first_if init z (o ∷ os) r k n s = rw k (s o cc)

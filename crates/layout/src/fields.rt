@@ -92,10 +92,9 @@ pub fn first_target_ok(c: Component) -> bool
     if !c.init {
         return is_minus_one(c.first_target);
     }
-    match c.objects().first() {
-        Some(o) => is_target(c.first_target, o.target),
-        None => false,
-    }
+    c.objects()
+        .first()
+        .is_some_and(|o| is_target(c.first_target, o.target))
 }
 
 // Are the targets of the object records at most 65,534?

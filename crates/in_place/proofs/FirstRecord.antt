@@ -19,7 +19,8 @@ module _ (z : ℤ) (s : List ℕ) (at : ℕ) where
   first_missing = refl
 
   -- The first of them has its target 44 bytes after the component's place.
-  pub first_after : (n : ℕ) → 0 < n → first_target_ok true z (objects_at n s (at + 40)) ≡ is_target z (u32_at s (at + 44))
+  pub first_after : (n : ℕ) → 0 < n → first_target_ok true z (objects_at n s (at + 40))
+      ≡ is_target z (u32_at s (at + 44))
   unfolding first_target_ok object_at
   first_after zero h = absurd (omega arith)
   first_after (suc n) h =

@@ -40,7 +40,10 @@ module _ (more sound joined : Bool) (last : Neighbour) where
       → broken_from more sound joined last (c ∷ cs)
       ≡ broken_from more (sound && fields_ok c) (joined && joins last (neighbour_of c)) (neighbour_of c) cs
   unfolding new_join
-  broken_next c cs = rw (and_move sound (fields_ok c) (every (field_tests cs)), and_moves joined (joins last (neighbour_of c)) _ _)
+  broken_next c cs = rw (
+    and_move sound (fields_ok c) (every (field_tests cs)),
+    and_moves joined (joins last (neighbour_of c)) _ _,
+  )
 
   pub broken_done : broken_from more sound joined last []
       ≡ cond sound (cond (joined && (more || not (is_empty last.begin last.end))) 0 7) 6

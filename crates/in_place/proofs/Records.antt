@@ -9,7 +9,8 @@ use Rattle.in_place.specs.Places.{components_at, Within}
 use Rattle.in_place.specs.RecordLaws.{component_records, records_length}
 
 -- The object record at position j of the n from a place on.
-objects_nth : (n : ℕ) (s : List ℕ) (at j : ℕ) → j < n → get_or (objects_at n s at) j no_object ≡ object_at s (at + 16 * j)
+objects_nth : (n : ℕ) (s : List ℕ) (at j : ℕ) → j < n → get_or (objects_at n s at) j no_object
+    ≡ object_at s (at + 16 * j)
 objects_nth zero s at j h = absurd (omega arith)
 objects_nth (suc n) s at zero h = ap (object_at s) (omega arith)
 objects_nth (suc n) s at (suc j) h =
@@ -25,7 +26,8 @@ module _ (s ps : List ℕ) (i : ℕ) (h : i < length (components_at s ps)) where
   placed = get_or-map (component_at s) ps i 0 no_component stands
 
   -- It has as many object records as are after it, at most 16.
-  pub placed_count : length (records_of (get_or (components_at s ps) i no_component)) ≡ min 16 (records_at s (get_or ps i 0))
+  pub placed_count : length (records_of (get_or (components_at s ps) i no_component))
+      ≡ min 16 (records_at s (get_or ps i 0))
   placed_count = rw placed (records_length s (get_or ps i 0))
 
   module _ (j : ℕ) (k : j < length (records_of (get_or (components_at s ps) i no_component))) where
@@ -33,8 +35,10 @@ module _ (s ps : List ℕ) (i : ℕ) (h : i < length (components_at s ps)) where
     below = omega (arith, k, placed_count)
 
     -- Each is in its place after the component,
-    pub placed_record : get_or (records_of (get_or (components_at s ps) i no_component)) j no_object ≡ object_at s (get_or ps i 0 + 40 + 16 * j)
-    placed_record = rw (placed, component_records) (objects_nth (min 16 (records_at s (get_or ps i 0))) s (get_or ps i 0 + 40) j below)
+    pub placed_record : get_or (records_of (get_or (components_at s ps) i no_component)) j no_object
+        ≡ object_at s (get_or ps i 0 + 40 + 16 * j)
+    placed_record = rw (placed, component_records) (objects_nth (min 16 (records_at s (get_or ps i 0))) s
+        (get_or ps i 0 + 40) j below)
 
     -- and ends by the end of the bytes.
     pub record_within : Within s (length ps) ps → get_or ps i 0 + 40 + 16 * j + 16 ≤ length s

@@ -1,5 +1,6 @@
 -- A scan of the row that holds object records tells whether these differ.
-use Rattle.std.specs.Prelude.{ℕ, ◌≤◌, ◌<◌, ◌≡◌, refl, List, [], ◌∷◌, Option, is_some, Bool, true, false, not, length, take}
+use Rattle.std.specs.Prelude.{ℕ, ◌≤◌, ◌<◌, ◌≡◌, refl, List, [], ◌∷◌, Option, is_some, Bool, true, false, not, length}
+use Rattle.std.specs.Prelude.{take}
 use Rattle.std.proofs.Common.{sym, ◌∙◌, arith}
 use Rattle.std.proofs.lemmas.List.Edits.{sets}
 use Rattle.lists.specs.Tests.{every, first_failed, found, length_along}
@@ -16,7 +17,8 @@ not_same false true e = absurd cc
 not_same false false e = refl
 
 -- A row with `all` object records stored in its first places has them there.
-pub stored : (row row' os : List Object) (all : ℕ) → length os ≤ length row → all ≡ length os → row' ≡ sets row 0 os → take all row' ≡ os
+pub stored : (row row' os : List Object) (all : ℕ) → length os ≤ length row → all ≡ length os → row' ≡ sets row 0 os
+    → take all row' ≡ os
 stored row row' os all h a t = rw (a, t) (take_sets row os h)
 
 -- What is said of the scan of them: no record equals one before it exactly if all differ.

@@ -1,5 +1,5 @@
--- `layout::check_later_rules` meets its contract: the first places of the outline are what it was made of, the neighbours and the
--- ids of the components.
+-- `layout::check_later_rules` meets its contract: the first places of the outline are what it was made of, the
+-- neighbours and the ids of the components.
 use Rattle.std.specs.Prelude.{◌≤◌, ◌≡◌, List, length, take}
 use Rattle.std.proofs.Common.{ap, ◌∙◌, arith}
 use Rattle.std.proofs.lemmas.List.{length-map}
@@ -25,32 +25,35 @@ module _ (cs : List Component) (o : Outline) (k : length cs ≤ 16) (e : o ≡ o
 pub neighbours_hold-requires : goal.neighbours_hold-requires
 neighbours_hold-requires c =
     let cs = c.args.components.now in
-    let r = c.requires in
-    rw (neighbours cs _ r.1 c.outline_of-outline.ensures)
+    rw (neighbours cs _ c.requires.1 c.outline_of-outline.ensures)
     record {
-      within = rw length-map r.0;
-      few = rw length-map r.1;
-      begins = prefix_begins c.args.from cs r.2;
-      follows = prefix_follows c.args.from cs r.2;
-      empties = prefix_empties c.args.from cs r.2;
+      within = rw length-map c.requires.0;
+      few = rw length-map c.requires.1;
+      begins = prefix_begins c.args.from cs c.requires.2;
+      follows = prefix_follows c.args.from cs c.requires.2;
+      empties = prefix_empties c.args.from cs c.requires.2;
     }
 
 pub returns-then-not-neighbours_hold : goal.returns-then-not-neighbours_hold
 returns-then-not-neighbours_hold c =
-    rw (← rw (neighbours _ _ c.requires.1 c.outline_of-outline.ensures) at c.neighbours_hold.ensures, c.if-not-neighbours_hold.true)
+    rw (
+      ← rw (neighbours _ _ c.requires.1 c.outline_of-outline.ensures) at c.neighbours_hold.ensures,
+      c.if-not-neighbours_hold.true,
+    )
 
 pub id_fault-requires : goal.id_fault-requires
 id_fault-requires c =
-    let cs = c.args.components.now in
-    let r = c.requires in
-    rw (ids cs _ r.1 c.outline_of-outline.ensures) (rw length-map r.0, prefix_ids c.args.from cs r.2)
+    rw (ids c.args.components.now _ c.requires.1 c.outline_of-outline.ensures) (
+      rw length-map c.requires.0,
+      prefix_ids c.args.from c.args.components.now c.requires.2,
+    )
 
 pub returns-then-is_some : goal.returns-then-is_some
 unfolding distinct_hold
 returns-then-is_some c =
-    let o = c.outline_of-outline in
-    let n = rw (neighbours _ _ c.requires.1 o.ensures) at c.neighbours_hold.ensures in
-    let i = none_found _ _ _ (rw (ids _ _ c.requires.1 o.ensures) at c.id_fault.ensures) (length_along _ _ _ _) in
+    let n = rw (neighbours _ _ c.requires.1 c.outline_of-outline.ensures) at c.neighbours_hold.ensures in
+    let i = none_found _ _ _ (rw (ids _ _ c.requires.1 c.outline_of-outline.ensures) at c.id_fault.ensures)
+    (length_along _ _ _ _) in
     grind (arith, common_steps)
 
 pub objects_differ-requires : goal.objects_differ-requires
@@ -59,15 +62,15 @@ objects_differ-requires c = (c.requires.0, c.requires.1, prefix_objects c.args.f
 pub returns-then-not-objects_differ : goal.returns-then-not-objects_differ
 unfolding distinct_hold
 returns-then-not-objects_differ c =
-    let o = c.outline_of-outline in
-    let n = rw (neighbours _ _ c.requires.1 o.ensures) at c.neighbours_hold.ensures in
-    let i = none_found _ _ _ (rw (ids _ _ c.requires.1 o.ensures) at c.id_fault.ensures) (length_along _ _ _ _) in
+    let n = rw (neighbours _ _ c.requires.1 c.outline_of-outline.ensures) at c.neighbours_hold.ensures in
+    let i = none_found _ _ _ (rw (ids _ _ c.requires.1 c.outline_of-outline.ensures) at c.id_fault.ensures)
+    (length_along _ _ _ _) in
     grind (arith, common_steps)
 
 pub returns : goal.returns
 unfolding distinct_hold
 returns c =
-    let o = c.outline_of-outline in
-    let n = rw (neighbours _ _ c.requires.1 o.ensures) at c.neighbours_hold.ensures in
-    let i = none_found _ _ _ (rw (ids _ _ c.requires.1 o.ensures) at c.id_fault.ensures) (length_along _ _ _ _) in
+    let n = rw (neighbours _ _ c.requires.1 c.outline_of-outline.ensures) at c.neighbours_hold.ensures in
+    let i = none_found _ _ _ (rw (ids _ _ c.requires.1 c.outline_of-outline.ensures) at c.id_fault.ensures)
+    (length_along _ _ _ _) in
     grind (arith, common_steps)

@@ -11,9 +11,8 @@ use Rattle.layout.proofs.check_rules_from.Goals as goal
 
 pub field_fault-requires : goal.field_fault-requires
 field_fault-requires c =
-    let l = c.args.l in
-    let n : length (view l) ≡ l.count = length-take-le l.count l.components (omega arith) in
-    rw c.components-components.ensures (omega arith, prefix_fields c.args.from (view l) c.requires.2)
+    let n : length (view c.args.l) ≡ c.args.l.count = length-take-le c.args.l.count c.args.l.components (omega arith) in
+    rw c.components-components.ensures (omega arith, prefix_fields c.args.from (view c.args.l) c.requires.2)
 
 pub returns-then-is_some : goal.returns-then-is_some
 unfolding rule_broken
@@ -24,8 +23,7 @@ returns-then-is_some c =
 
 pub check_later_rules-requires : goal.check_later_rules-requires
 check_later_rules-requires c =
-    let l = c.args.l in
-    let n : length (view l) ≡ l.count = length-take-le l.count l.components (omega arith) in
+    let n : length (view c.args.l) ≡ c.args.l.count = length-take-le c.args.l.count c.args.l.components (omega arith) in
     rw c.components-components.ensures (omega arith, omega arith, c.requires.2)
 
 pub returns : goal.returns

@@ -11,10 +11,16 @@ use Rattle.layout.proofs.is_valid.Goals as goal
 pub returns-then-l-le16 : goal.returns-then-l-le16
 unfolding valid
 returns-then-l-le16 c =
-    let l = c.args.l in
     let t = c.if-l-le16.true in
-    let n : length (view l) ≡ l.count = length-take-le l.count l.components (omega arith) in
-    rw (t.0, le-leb 1 l.count t.1, le-leb l.count 16 t.2, eq-eqb _ _ n, ← c.check_rules.ensures, ← ok_number) c.is_ok.ensures.value
+    let n : length (view c.args.l) ≡ c.args.l.count = length-take-le c.args.l.count c.args.l.components (omega arith) in
+    rw (
+      t.0,
+      le-leb 1 c.args.l.count t.1,
+      le-leb c.args.l.count 16 t.2,
+      eq-eqb _ _ n,
+      ← c.check_rules.ensures,
+      ← ok_number,
+    ) c.is_ok.ensures.value
 
 pub returns-else-l-le16 : goal.returns-else-l-le16
 unfolding valid

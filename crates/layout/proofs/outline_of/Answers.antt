@@ -1,4 +1,5 @@
--- `layout::outline_of` meets its contract: what all stores give is what the stores from i on give to the arrays as they are.
+-- `layout::outline_of` meets its contract: what all stores give is what the stores from i on give to the arrays as they
+-- are.
 use Rattle.std.proofs.Common.{◌≡◌, refl, sym, ◌∙◌, add-one, drop-cons, drop_of_length-le}
 use Rattle.layout.specs.Records.{outline_of}
 use Rattle.layout.proofs.Unread.{unread}
@@ -9,15 +10,13 @@ loop-i-init c = (refl, refl)
 
 pub loop-i-preserved : goal.loop-i-preserved
 loop-i-preserved c =
-    let l = c.loop-i in
-    let e = drop-cons c.args.components.now l.i unread c.loop-i-test.true in
-    (l.invariant.0 ∙ rw (e, add-one, c.into.ensures), l.invariant.1 ∙ rw (e, add-one))
+    let e = drop-cons c.args.components.now c.loop-i.i unread c.loop-i-test.true in
+    (c.loop-i.invariant.0 ∙ rw (e, add-one, c.into.ensures), c.loop-i.invariant.1 ∙ rw (e, add-one))
 
 pub returns : goal.returns
 returns c =
-    let l = c.loop-i in
     let cs = c.args.components.now in
-    let e = drop_of_length-le cs {i = l.i} c.loop-i-test.false in
-    let x : l.neighbours ≡ (outline_of cs).neighbours = sym (l.invariant.0 ∙ rw e) in
-    let y : l.ids ≡ (outline_of cs).ids = sym (l.invariant.1 ∙ rw e) in
+    let e = drop_of_length-le cs {i = c.loop-i.i} c.loop-i-test.false in
+    let x : c.loop-i.neighbours ≡ (outline_of cs).neighbours = sym (c.loop-i.invariant.0 ∙ rw e) in
+    let y : c.loop-i.ids ≡ (outline_of cs).ids = sym (c.loop-i.invariant.1 ∙ rw e) in
     λ i. record { neighbours = x i; ids = y i }

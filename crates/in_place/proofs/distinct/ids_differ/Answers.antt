@@ -1,4 +1,5 @@
--- `in_place::distinct::ids_differ` meets its contract: what all stores give is what the stores from i on give to the ids.
+-- `in_place::distinct::ids_differ` meets its contract: what all stores give is what the stores from i on give to the
+-- ids.
 use Rattle.std.specs.Prelude.{◌≡◌, [], eqb, length, take, replicate}
 use Rattle.std.proofs.Common.{refl, sym, ◌∙◌, arith, add-one}
 use Rattle.std.proofs.lemmas.Grind.{common_steps}
@@ -31,12 +32,12 @@ loop-i-preserved c =
 
 pub returns : goal.returns
 returns c =
-    let a = c.args in
-    let cs = components_at a.s.now a.places.now in
-    let n : length cs ≡ length a.places.now = components_length a.s.now a.places.now in
-    let e = components_done a.s.now a.places.now c.loop-i.i c.loop-i-test.false in
+    let cs = components_at c.args.s.now c.args.places.now in
+    let n : length cs ≡ length c.args.places.now = components_length c.args.s.now c.args.places.now in
+    let e = components_done c.args.s.now c.args.places.now c.loop-i.i c.loop-i-test.false in
     let x : c.loop-i.ids ≡ sets (replicate 16 0) 0 (ids_of cs) = sym (c.loop-i.invariant ∙ rw e) in
-    let t : take (length a.places.now) c.loop-i.ids ≡ ids_of cs =
+    let t : take (length c.args.places.now) c.loop-i.ids ≡ ids_of cs =
     rw x (rw n at (take_sets_map id_of (replicate 16 0) cs (omega arith))) in
-    let f = none_found (id_tests cs) c.id_fault.result _ (rw t at c.id_fault.ensures) (length_along (unseen eqb) seen_with [] (ids_of cs)) in
+    let f = none_found (id_tests cs) c.id_fault.result _ (rw t at c.id_fault.ensures)
+    (length_along (unseen eqb) seen_with [] (ids_of cs)) in
     grind (arith, common_steps)

@@ -7,9 +7,8 @@ use Rattle.in_place.proofs.fields.fields_ok.Goals as goal
 pub returns : goal.returns
 unfolding component_at
 returns c =
-    let a = c.args in
     sym (
-    fields_at a.s.now a.at
+    fields_at c.args.s.now c.args.at
     ∙ rw (
       c.has_count.ensures,
       c.targets_ok.ensures,

@@ -1,4 +1,5 @@
--- `in_place::neighbours::check_new` meets its contract: the components asked so far and those that are left give what all give.
+-- `in_place::neighbours::check_new` meets its contract: the components asked so far and those that are left give what
+-- all give.
 use Rattle.std.specs.Prelude.{◌+◌, drop, get_or}
 use Rattle.std.proofs.Common.{sym, ◌∙◌, arith}
 use Rattle.page.specs.Content.{component_at}
@@ -18,12 +19,11 @@ fields_ok-sound-requires c = c.requires.1 c.loop-at.at-index c.loop-at-test.true
 
 pub loop-at-preserved : goal.loop-at-preserved
 loop-at-preserved c =
-    let a = c.args in
-    let l = c.loop-at in
-    let e = components_next a.s.now a.new.now l.at-index c.loop-at-test.true in
-    let x = component_at a.s.now (get_or a.new.now l.at-index 0) in
-    let rest = components_at a.s.now (drop (l.at-index + 1) a.new.now) in
-    l.invariant ∙ rw (e, c.joins-joined.ensures, c.fields_ok-sound.ensures, c.neighbour_at-c.ensures) (broken_next a.more l.sound l.joined l.last x rest)
+    let e = components_next c.args.s.now c.args.new.now c.loop-at.at-index c.loop-at-test.true in
+    let x = component_at c.args.s.now (get_or c.args.new.now c.loop-at.at-index 0) in
+    let rest = components_at c.args.s.now (drop (c.loop-at.at-index + 1) c.args.new.now) in
+    c.loop-at.invariant ∙ rw (e, c.joins-joined.ensures, c.fields_ok-sound.ensures, c.neighbour_at-c.ensures)
+    (broken_next c.args.more c.loop-at.sound c.loop-at.joined c.loop-at.last x rest)
 
 pub returns-then-not-sound : goal.returns-then-not-sound
 returns-then-not-sound c =

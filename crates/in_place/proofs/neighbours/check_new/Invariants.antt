@@ -1,4 +1,5 @@
--- `in_place::neighbours::check_new` meets its contract: the components asked so far and those that are left give what all give.
+-- `in_place::neighbours::check_new` meets its contract: the components asked so far and those that are left give what
+-- all give.
 use Rattle.std.proofs.Common.{◌≡◌, drop}
 use Rattle.in_place.specs.Places.{components_at}
 use Rattle.in_place.specs.Joining.{new_rule_broken}

@@ -21,9 +21,8 @@ loop-i-preserved c =
 
 pub returns : goal.returns
 returns c =
-    let a = c.args in
-    let cs = components_at a.s.now a.places.now in
-    let e = components_done a.s.now a.places.now c.loop-i.i c.loop-i-test.false in
-    let n : length a.places.now ≡ length cs = sym (components_length a.s.now a.places.now) in
+    let cs = components_at c.args.s.now c.args.places.now in
+    let e = components_done c.args.s.now c.args.places.now c.loop-i.i c.loop-i-test.false in
+    let n : length c.args.places.now ≡ length cs = sym (components_length c.args.s.now c.args.places.now) in
     let x : c.loop-i.out.components ≡ pack_components cs = sym (c.loop-i.invariant ∙ rw e) in
-    λ i. record { generation = a.generation; count = n i; components = x i; complete = true }
+    λ i. record { generation = c.args.generation; count = n i; components = x i; complete = true }

@@ -7,4 +7,5 @@ use Rattle.in_place.specs.Places.{components_at}
 use Rattle.in_place.proofs.whole.layout_at.Given as goal
 
 abbrev pub invariant-loop-i : goal.invariant-loop-i
-invariant-loop-i l = pack_components (components_at l.s l.places) ≡ sets l.out.components l.i (components_at l.s (drop l.i l.places))
+invariant-loop-i l = pack_components (components_at l.s l.places)
+    ≡ sets l.out.components l.i (components_at l.s (drop l.i l.places))

@@ -1,4 +1,5 @@
--- `layout::distinct::put_all` meets its contract: what all stores give is what the stores of the components from i on give to the row as it is.
+-- `layout::distinct::put_all` meets its contract: what all stores give is what the stores of the components from i on
+-- give to the row as it is.
 use Rattle.std.proofs.Common.{◌≡◌, ◌+◌, refl, sym, ◌∙◌, length, get_or, drop, arith, length-append, drop_of_length-le}
 use Rattle.lists.specs.Slices.{drop_next, sets_append}
 use Rattle.layout.specs.Records.{no_component, records_of, records_in}
@@ -9,29 +10,28 @@ loop-i-init g c = (refl, omega arith, refl)
 
 pub put_records-p-requires-clause-room : goal.put_records-p-requires-clause-room
 put_records-p-requires-clause-room g c =
-    let l = c.loop-i in
     let cs = g.C.Components.list c.args.components.now in
-    let x = get_or cs l.i no_component in
-    let e = drop_next cs l.i no_component (omega arith) in
-    let n : l.p + length (records_of x) + length (records_in (drop (l.i + 1) cs)) ≡ length (records_in cs) =
-    sym (l.invariant.1 ∙ rw (e, length-append) (omega arith)) in
+    let x = get_or cs c.loop-i.i no_component in
+    let e = drop_next cs c.loop-i.i no_component (omega arith) in
+    let n : c.loop-i.p + length (records_of x) + length (records_in (drop (c.loop-i.i + 1) cs))
+    ≡ length (records_in cs) =
+    sym (c.loop-i.invariant.1 ∙ rw (e, length-append) (omega arith)) in
     omega arith
 
 pub loop-i-preserved : goal.loop-i-preserved
 loop-i-preserved g c =
-    let l = c.loop-i in
     let cs = g.C.Components.list c.args.components.now in
     let q = c.put_records-p in
-    let x = get_or cs l.i no_component in
-    let rest = records_in (drop (l.i + 1) cs) in
-    let e = drop_next cs l.i no_component (omega arith) in (
-      q.auto.objects ∙ l.invariant.0,
-      l.invariant.1 ∙ rw (e, length-append, q.ensures.0) (omega arith),
-      l.invariant.2 ∙ rw (e, q.ensures.1, q.ensures.0) (sets_append l.objects l.p (records_of x) rest),
+    let x = get_or cs c.loop-i.i no_component in
+    let rest = records_in (drop (c.loop-i.i + 1) cs) in
+    let e = drop_next cs c.loop-i.i no_component (omega arith) in (
+      q.auto.objects ∙ c.loop-i.invariant.0,
+      c.loop-i.invariant.1 ∙ rw (e, length-append, q.ensures.0) (omega arith),
+      c.loop-i.invariant.2 ∙ rw (e, q.ensures.1, q.ensures.0)
+          (sets_append c.loop-i.objects c.loop-i.p (records_of x) rest),
     )
 
 pub returns : goal.returns
 returns g c =
-    let l = c.loop-i in
-    let e = drop_of_length-le (g.C.Components.list c.args.components.now) {i = l.i} (omega arith) in
-    (sym (l.invariant.1 ∙ rw e (omega arith)), sym (l.invariant.2 ∙ rw e))
+    let e = drop_of_length-le (g.C.Components.list c.args.components.now) {i = c.loop-i.i} (omega arith) in
+    (sym (c.loop-i.invariant.1 ∙ rw e (omega arith)), sym (c.loop-i.invariant.2 ∙ rw e))

@@ -1,4 +1,5 @@
--- `layout::distinct::put_all` meets its contract: what all stores give is what the stores of the components from i on give to the row as it is.
+-- `layout::distinct::put_all` meets its contract: what all stores give is what the stores of the components from i on
+-- give to the row as it is.
 use Rattle.std.proofs.Common.{◌≡◌, ◌+◌, length, drop}
 use Rattle.std.proofs.lemmas.List.Edits.{sets}
 use Rattle.layout.specs.Records.{records_in}

@@ -12,13 +12,13 @@ loop-i-init c = (c.requires, refl)
 
 pub loop-i-preserved : goal.loop-i-preserved
 loop-i-preserved c =
-    let l = c.loop-i in
-    let e = drop-cons c.args.objects.now l.i no_object c.loop-i-test.true in
-    (length-set l.keys l.i c.key_of.result ∙ l.invariant.0, l.invariant.1 ∙ rw (e, ← c.key_of.ensures, add-one))
+    let e = drop-cons c.args.objects.now c.loop-i.i no_object c.loop-i-test.true in (
+      length-set c.loop-i.keys c.loop-i.i c.key_of.result ∙ c.loop-i.invariant.0,
+      c.loop-i.invariant.1
+          ∙ rw (e, ← c.key_of.ensures, add-one),
+    )
 
 pub returns : goal.returns
 returns c =
-    let l = c.loop-i in
-    let os = c.args.objects.now in
-    sym (l.invariant.1 ∙ rw (drop_of_length-le os {i = l.i} c.loop-i-test.false))
-    ∙ sets_whole c.args.keys.now _ (length-map os key_of ∙ sym c.requires)
+    sym (c.loop-i.invariant.1 ∙ rw (drop_of_length-le c.args.objects.now {i = c.loop-i.i} c.loop-i-test.false))
+    ∙ sets_whole c.args.keys.now _ (length-map c.args.objects.now key_of ∙ sym c.requires)

@@ -1,4 +1,5 @@
--- `layout::distinct::put_records` meets its contract: what all stores give is what the stores from j on give to the row as it is.
+-- `layout::distinct::put_records` meets its contract: what all stores give is what the stores from j on give to the row
+-- as it is.
 use Rattle.std.proofs.Common.{◌+◌, refl, sym, ◌∙◌, get_or, drop, arith, add-zero, drop_of_length-le}
 use Rattle.std.proofs.Math.ListN.{length-set}
 use Rattle.lists.specs.Slices.{drop_next, sets_next}
@@ -10,16 +11,15 @@ loop-j-init g c = (refl, rw add-zero)
 
 pub loop-j-preserved : goal.loop-j-preserved
 loop-j-preserved g c =
-    let l = c.loop-j in
     let os = records_of (get_or (g.C.Components.list c.args.components.now) c.args.i no_component) in
-    let e = drop_next os l.j no_object (omega (arith, c.records-n.ensures)) in (
-      length-set l.objects (c.args.at + l.j) c.record.result ∙ l.invariant.0,
-      l.invariant.1 ∙ rw (e, ← c.record.ensures) (sets_next l.objects c.args.at l.j c.record.result (drop (l.j + 1) os)),
+    let e = drop_next os c.loop-j.j no_object (omega (arith, c.records-n.ensures)) in (
+      length-set c.loop-j.objects (c.args.at + c.loop-j.j) c.record.result ∙ c.loop-j.invariant.0,
+      c.loop-j.invariant.1 ∙ rw (e, ← c.record.ensures)
+          (sets_next c.loop-j.objects c.args.at c.loop-j.j c.record.result (drop (c.loop-j.j + 1) os)),
     )
 
 pub returns : goal.returns
 returns g c =
-    let l = c.loop-j in
     let os = records_of (get_or (g.C.Components.list c.args.components.now) c.args.i no_component) in
-    let e = drop_of_length-le os {i = l.j} (omega (arith, c.records-n.ensures)) in
-    (omega (arith, c.records-n.ensures), sym (l.invariant.1 ∙ rw e))
+    let e = drop_of_length-le os {i = c.loop-j.j} (omega (arith, c.records-n.ensures)) in
+    (omega (arith, c.records-n.ensures), sym (c.loop-j.invariant.1 ∙ rw e))

@@ -1,4 +1,5 @@
--- `layout::distinct::put_records` meets its contract: what all stores give is what the stores from j on give to the row as it is.
+-- `layout::distinct::put_records` meets its contract: what all stores give is what the stores from j on give to the row
+-- as it is.
 use Rattle.std.proofs.Common.{◌≡◌, ◌+◌, length, drop, get_or}
 use Rattle.std.proofs.lemmas.List.Edits.{sets}
 use Rattle.layout.specs.Records.{no_component, records_of}

@@ -10,13 +10,15 @@ loop-i-init g c = (omega arith, omega arith, refl)
 
 pub loop-i-preserved : goal.loop-i-preserved
 loop-i-preserved g c =
-    let l = c.loop-i in
     let cs = g.C.Components.list c.args.components.now in
-    let e = take_next cs l.i no_component (omega arith) in
-    (omega arith, omega (arith, c.records-total.ensures), rw (e, records_in_append, length-append, append-nil) (omega (arith, l.invariant.2, c.records-total.ensures)))
+    let e = take_next cs c.loop-i.i no_component (omega arith) in (
+      omega arith,
+      omega (arith, c.records-total.ensures),
+      rw (e, records_in_append, length-append, append-nil)
+          (omega (arith, c.loop-i.invariant.2, c.records-total.ensures)),
+    )
 
 pub returns : goal.returns
 returns g c =
-    let l = c.loop-i in
-    let e : l.i ≡ c.args.to = omega arith in
-    (rw e at l.invariant.2, omega arith)
+    let e : c.loop-i.i ≡ c.args.to = omega arith in
+    (rw e at c.loop-i.invariant.2, omega arith)

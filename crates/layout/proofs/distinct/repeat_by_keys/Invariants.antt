@@ -1,5 +1,5 @@
--- `layout::distinct::repeat_by_keys` meets its contract: outside, the records before `later` differ; inside, the record is asked of
--- those from `earlier` to `later`, or of none if its key equals none of theirs.
+-- `layout::distinct::repeat_by_keys` meets its contract: outside, the records before `later` differ; inside, the record
+-- is asked of those from `earlier` to `later`, or of none if its key equals none of theirs.
 use Rattle.std.proofs.Common.{◌≡◌, get_or, take}
 use Rattle.std.proofs.Math.Seq.{slice}
 use Rattle.lists.specs.Counting.{elem}

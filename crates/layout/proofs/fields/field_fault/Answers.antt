@@ -15,13 +15,15 @@ pub returns : goal.returns
 returns c =
     let cs = c.args.components.now in
     let k = c.args.from in
-    let p = found-position (λ (x : Component). not (fields_ok x)) _ _ _ c.position.ensures.ran (YieldsList-from_slice (drop k cs) (c.iter.ensures.rest ∙ part_rest cs k)) (λ x b q k. search (rules, tests)) in
+    let p = found-position (λ (x : Component). not (fields_ok x)) _ _ _ c.position.ensures.ran
+    (YieldsList-from_slice (drop k cs) (c.iter.ensures.rest ∙ part_rest cs k)) (λ x b q k. search (rules, tests)) in
     each_some fields_ok cs k c.requires.0 c.requires.1 _ (sym c.in_ok-i.was ∙ p)
 
 pub returns-in_err-i : goal.returns-in_err-i
 returns-in_err-i c =
     let cs = c.args.components.now in
     let k = c.args.from in
-    let p = found-position (λ (x : Component). not (fields_ok x)) _ _ _ c.position.ensures.ran (YieldsList-from_slice (drop k cs) (c.iter.ensures.rest ∙ part_rest cs k)) (λ x b q k. search (rules, tests)) in
+    let p = found-position (λ (x : Component). not (fields_ok x)) _ _ _ c.position.ensures.ran
+    (YieldsList-from_slice (drop k cs) (c.iter.ensures.rest ∙ part_rest cs k)) (λ x b q k. search (rules, tests)) in
     let n : c.from_residual.result ≡ None = search rules in
     n ∙ each_none fields_ok cs k c.requires.0 c.requires.1 (sym c.in_err-i.was ∙ p)

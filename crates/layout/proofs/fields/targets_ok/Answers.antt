@@ -7,4 +7,5 @@ use Rattle.layout.specs.Fields.{target_ok}
 use Rattle.layout.proofs.fields.targets_ok.Goals as goal
 
 pub returns : goal.returns
-returns c = every-all target_ok _ _ _ c.all.ensures.ran (YieldsList-from_slice c.args.objects.now c.iter.ensures.rest) (λ x b q k. search (rules, tests))
+returns c = every-all target_ok _ _ _ c.all.ensures.ran (YieldsList-from_slice c.args.objects.now c.iter.ensures.rest)
+    (λ x b q k. search (rules, tests))

@@ -10,7 +10,8 @@ pub returns-then-is_none-3 : goal.returns-then-is_none-3
 unfolding neighbours_hold
 returns-then-is_none-3 c =
     let b = none_found (begin_tests c.args.list.now) _ _ c.begin_fault.ensures (length_along _ _ _ c.args.list.now) in
-    let l = none_found (last_tests c.args.more c.args.list.now) _ _ c.last_fault.ensures (length_ahead _ c.args.list.now) in
+    let l = none_found (last_tests c.args.more c.args.list.now) _ _ c.last_fault.ensures
+    (length_ahead _ c.args.list.now) in
     grind (arith, common_steps, none_found, length_along, length_ahead)
 
 pub returns-else-is_none-3 : goal.returns-else-is_none-3

@@ -20,5 +20,5 @@ overflow_add-self-2 c =
 
 pub returns : goal.returns
 returns c =
-    let s = c.args.self.now in
-    c.object_at.ensures ∙ sym (placed_record s.bytes.now s.places.now c.args.i c.requires.place c.args.j c.requires.record)
+    c.object_at.ensures ∙ sym (placed_record c.args.self.now.bytes.now c.args.self.now.places.now c.args.i
+    c.requires.place c.args.j c.requires.record)

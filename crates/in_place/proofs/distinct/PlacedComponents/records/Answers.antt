@@ -4,6 +4,8 @@ use Rattle.in_place.proofs.Records.{placed_count}
 use Rattle.in_place.proofs.distinct.PlacedComponents.records.Goals as goal
 
 pub returns : goal.returns
-returns c =
-    let s = c.args.self.now in
-    (c.record_count.ensures.0 ∙ sym (placed_count s.bytes.now s.places.now c.args.i c.requires), c.record_count.ensures.1)
+returns c = (
+  c.record_count.ensures.0 ∙ sym (placed_count c.args.self.now.bytes.now c.args.self.now.places.now c.args.i
+      c.requires),
+  c.record_count.ensures.1,
+)

@@ -1,8 +1,12 @@
 -- The laws of round-robin striping, each once over any stripe size z and stripe count s.
-use Rattle.std.specs.Prelude.{ℕ, ◌+◌, ◌*◌, ◌/◌, ◌%◌, ◌≤◌, ◌<◌, ◌≡◌}
-use Rattle.std.proofs.Common.{◌∙◌, add-mul, mul-le-mul_right, div-add-mod', div-le_self, mod-lt, mod-eq_of_lt, arith}
+use Rattle.std.specs.Prelude.{ℕ, ◌+◌, ◌-◌, ◌*◌, ◌/◌, ◌%◌, ◌^◌, ◌≤◌, ◌<◌, ◌≡◌, leb}
+use Rattle.std.specs.Option.{is_some}
+use Rattle.std.proofs.Common.{inl, inr, leb-true, ◌∙◌, arith}
+use Rattle.std.proofs.Common.{add-mul, mul-le-mul_right, div-add-mod', div-le_self, mod-lt, mod-eq_of_lt}
 use Rattle.std.proofs.Math.Nat.{div-eq_of_lt, mul-add-div_right, mul-add-mod_self_right}
-use Rattle.stripe.specs.Stripe.{unit_of, stripe_of, object_byte, file_byte}
+use Rattle.std.proofs.lemmas.Bool.{cases_Bool, cases_lt, le-leb}
+use Rattle.stripe.specs.Stripe.{unit_of, stripe_of, object_byte, file_byte, file_byte_below}
+use Rattle.stripe.specs.Laws.{last_unit, told_below, file_byte_below_lem, file_byte_some, file_byte_none}
 
 -- q whole blocks of m and r more, with r below m: the quotient by m is q.
 quotient : (m q r : ℕ) → r < m → (q * m + r) / m ≡ q
@@ -111,3 +115,27 @@ next_on_first_stripe z s o d hz h hs =
       rw (unit_next z o d hz h) (remainder_next s (unit_of z o) 1 p hs),
       rw (unit_next z o d hz h, quotient_next s (unit_of z o) 1 p hs, unit_next_begin z o d hz h) (omega arith),
     )
+
+-- The two tests of the law on when a file byte is below a bound tell whether there is one below 2^64.
+pub told_some : (z s i p : ℕ) → 0 < z → 0 < s → p % z < 2 ^ 64
+    → is_some (file_byte_below z s i p) ≡ told_below (2 ^ 64) z s i p
+unfolding told_below
+told_some z s i p hz hs hp =
+    let k = file_byte_below_lem (2 ^ 64) z s i p hz hs hp in
+    let last = last_unit (2 ^ 64) z p in
+    let a = leb i last in
+    let b = leb (p / z) ((last - i) / s) in
+    elim (cases_lt (file_byte z s i p) (2 ^ 64)) [
+      | inl h ↦
+          let t = k.0 h in
+          rw (file_byte_some z s i p h, le-leb i last t.0, le-leb (p / z) ((last - i) / s) t.1)
+      | inr h ↦
+          let none = file_byte_none z s i p (λ f. omega (arith, f, h)) in
+          elim (cases_Bool a) [
+            | inr e ↦ rw (none, e)
+            | inl e ↦ elim (cases_Bool b) [
+              | inr f ↦ rw (none, e, f)
+              | inl f ↦ absurd (omega (arith, h, k.1 (leb-true i last e, leb-true (p / z) ((last - i) / s) f)))
+            ]
+          ]
+    ]

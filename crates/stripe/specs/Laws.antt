@@ -1,5 +1,5 @@
 -- When a file byte is below a bound, over any stripe size z and stripe count s. The other laws are in proofs/Laws.antt.
-use Rattle.std.specs.Prelude.{ℕ, ◌+◌, ◌-◌, ◌*◌, ◌/◌, ◌%◌, ◌^◌, ◌≤◌, ◌<◌, ◌↔◌, ◌≡◌, None, Some}
+use Rattle.std.specs.Prelude.{ℕ, ◌+◌, ◌-◌, ◌*◌, ◌/◌, ◌%◌, ◌^◌, ◌≤◌, ◌<◌, ◌↔◌, ◌≡◌, None, Some, Bool, leb, ◌&&◌}
 use Rattle.std.proofs.Common.{lt-ltb, le-ltb, le-div_iff_mul-le, arith}
 use Rattle.stripe.specs.Stripe.{file_byte, file_byte_below}
 
@@ -20,6 +20,11 @@ file_byte_below_lem b z s i p hz hs hb = (
       let u : p / z * s + i ≤ last_unit b z p = omega (arith, t.0) in
       omega (arith, (le-div_iff_mul-le hz).0 u),
 )
+
+-- The two tests of that law: of a stripe i and an object byte p, is the file byte below b? At 2^64 they tell whether
+-- there is a file byte (`told_some` in proofs/Laws.antt).
+unfoldable pub told_below : ℕ → ℕ → ℕ → ℕ → ℕ → Bool
+told_below b z s i p = leb i (last_unit b z p) && leb (p / z) ((last_unit b z p - i) / s)
 
 -- If the file byte is below 2^64, `file_byte_below` is `Some` of it.
 pub file_byte_some : (z s i p : ℕ) → file_byte z s i p < 2 ^ 64 → file_byte_below z s i p ≡ Some (file_byte z s i p)

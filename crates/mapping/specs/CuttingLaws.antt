@@ -3,6 +3,7 @@
 -- refusal.
 use Rattle.std.specs.Prelude.{ℕ, zero, suc, ◌+◌, ◌-◌, ◌*◌, ◌^◌, ◌<◌, ◌≤◌, ◌≡◌, refl, List, [], ◌∷◌, Bool, false, cond, ◌&&◌, ltb, length}
 use Rattle.std.proofs.Common.{sym, ap, ◌∙◌, arith}
+use Rattle.std.proofs.lemmas.List.{length-map}
 use Rattle.std.proofs.Math.Bool.{true}
 use Rattle.std.proofs.lemmas.List.Edits.{sets}
 use borrow.Author.Tests.{lt-ltb, le-ltb, ltb-true}
@@ -11,12 +12,13 @@ use Rattle.lists.specs.Tests.{any_of}
 use Rattle.lists.specs.Slices.{sets_append}
 use Rattle.layout.specs.declared.Component.{Component}
 use Rattle.layout.specs.Facts.{IsInit, Fields}
-use Rattle.layout.specs.FactLaws.{kind_init}
+use Rattle.layout.specs.FactLaws.{kind_init, keeps_facts}
 use Rattle.mapping.specs.declared.Span.{Span}
 use Rattle.mapping.specs.declared.Piece.{Piece}
 use Rattle.mapping.specs.Answers.{Answer, gives, refuses, answer}
 use Rattle.mapping.specs.AnswerLaws.{gives_or_refuses, answer_gives}
-use Rattle.mapping.specs.Spans.{spans_of}
+use Rattle.mapping.specs.Components.{AreValid}
+use Rattle.mapping.specs.Spans.{span_of, spans_of}
 use Rattle.mapping.specs.Cutting.{unit_count, part_begin, part_end, part_count, part_pieces, pieces_of, piece_count}
 use Rattle.mapping.specs.Cutting.{not_init_asked, too_many, refusal_by, all_numbers, room_after}
 use Rattle.mapping.specs.Spans.{AllCuttable}
@@ -30,6 +32,11 @@ fields_cuttable (c ∷ cs) f =
       λ i. let k = (init i).striped in (omega (arith, k.size.nonzero, k.size.multiple), k.some),
       fields_cuttable cs f.2,
     )
+
+-- So can those of a valid layout, and they are at most 16.
+pub valid_cuttable : (cs : List Component) → AreValid cs → (length (spans_of cs) ≤ 16) × AllCuttable (spans_of cs)
+valid_cuttable cs v =
+    (rw (length-map cs span_of) v.1, fields_cuttable cs (keeps_facts false cs v.2).fields)
 
 module _ (a b : ℕ) (c : Span) where
   -- The number of pieces of a component by its init flag.

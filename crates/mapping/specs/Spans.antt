@@ -1,5 +1,6 @@
 -- A component as cutting sees it, and what cutting takes as known of it.
 use Rattle.std.specs.Prelude.{◌≤◌, ◌≡◌, List, [], ◌∷◌, map, true, false}
+use Rattle.std.specs.Coded.{×_prop, →_prop, Unit-prop, le_prop}
 use Rattle.layout.specs.declared.Component.{Component}
 use Rattle.mapping.specs.declared.Span.{Span}
 
@@ -32,3 +33,8 @@ Cuttable c = c.init ≡ true → (65536 ≤ c.stripe_size) × (1 ≤ c.stripe_co
 abbrev pub AllCuttable : List Span → Type 0
 AllCuttable [] = Unit {0}
 AllCuttable (c ∷ cs) = Cuttable c × AllCuttable cs
+
+-- It has one proof at most, so a type may hold it.
+pub AllCuttable-prop : (cs : List Span) → IsProp (AllCuttable cs)
+AllCuttable-prop [] = Unit-prop
+AllCuttable-prop (c ∷ cs) = ×_prop (→_prop (×_prop le_prop le_prop)) (AllCuttable-prop cs)

@@ -9,10 +9,11 @@ ghost use Rattle.mapping.specs.Answers.{answer};
 ghost use Rattle.mapping.specs.Cutting.{part_begin, part_end, not_init_asked, part_count, part_pieces};
 ghost use Rattle.mapping.specs.Cutting.{piece_count, pieces_of, all_numbers, too_many, room_after};
 ghost use Rattle.mapping.specs.Cutting.{refusal_by, cut_refusal, cut_pieces, cut_in, cut_says};
-ghost use Rattle.mapping.specs.Spans.{spans_of, Cuttable};
+ghost use Rattle.mapping.specs.Spans.{Cuttable, AllCuttable};
 
 use crate::components::Components;
 use crate::listed::Listed;
+use crate::spans::{SpanList, Spans, SpansOf};
 use crate::{Span, units};
 use layout::Layout;
 use refusals::Refusal;
@@ -60,15 +61,15 @@ pub fn part_count(c: Span, request: Request) -> u64
 }
 
 // The number of pieces of the request in the components. Refused by 11 if a byte of it lies in one that is not init.
-fn asked<C: Components>(components: &C, request: Request) -> Result<u64, Refusal>
+fn asked<S: Spans>(spans: &S, request: Request) -> Result<u64, Refusal>
     ensures { cut_says result
         ≡ answer
-        (cond (any_of (not_init_asked request.offset request.stop) (spans_of (C.list components.now))) 11 0)
-        (piece_count request.offset request.stop (spans_of (C.list components.now))) }
+        (cond (any_of (not_init_asked request.offset request.stop) (S.spans spans.now)) 11 0)
+        (piece_count request.offset request.stop (S.spans spans.now)) }
 {
     let mut pieces: u64 = 0;
-    for i in 0..components.count() {
-        let span = components.span(i);
+    for i in 0..spans.count() {
+        let span = spans.span(i);
         if not_init_asked(span, request) {
             return Err(Refusal::NotInit);
         }
@@ -91,22 +92,25 @@ fn last_end<C: Components>(components: &C) -> u64
     components.end(components.count() - 1)
 }
 
-// The number of pieces of the request of `bytes` bytes from `offset` into so many lent numbers. Refused by 9, 10, 11 or
-// 12.
-fn count_pieces<C: Components>(
-    components: &C,
+// The number of pieces of the request of `bytes` bytes from `offset` into so many lent numbers, in components of which
+// the last one ends at `end`. Refused by 9, 10, 11 or 12.
+fn count_pieces<S: Spans>(
+    spans: &S,
+    end: u64,
     offset: u64,
     bytes: u64,
     numbers: usize,
 ) -> Result<u64, Refusal>
-    ensures { cut_says result ≡ cut_in offset bytes numbers (C.list components.now) }
+    ensures { cut_says result
+        ≡ answer
+        (refusal_by end offset bytes numbers (S.spans spans.now))
+        (piece_count offset (offset + bytes) (S.spans spans.now)) }
 {
     let stop = offset.checked_add(bytes).ok_or(Refusal::RequestEnd)?;
-    let end = last_end(components);
     if 0 < bytes && end < stop {
         return Err(Refusal::PastEnd);
     }
-    let pieces = asked(components, Request { offset, stop })?;
+    let pieces = asked(spans, Request { offset, stop })?;
     if too_many(numbers, pieces) {
         return Err(Refusal::Pieces);
     }
@@ -132,16 +136,54 @@ pub fn put_part(room: &mut [u64], at: usize, c: Span, request: Request) -> usize
 }
 
 // Writes the pieces of the request in the components into the first of the lent numbers.
-fn put_pieces<C: Components>(room: &mut [u64], components: &C, request: Request)
-    requires { (5 * piece_count request.offset request.stop (spans_of (C.list components.now)) ≤ length room.old) }
+fn put_pieces<S: Spans>(room: &mut [u64], spans: &S, request: Request)
+    requires { (5 * piece_count request.offset request.stop (S.spans spans.now) ≤ length room.old) }
     ensures { room.new
-        ≡ sets room.old 0
-        (all_numbers (pieces_of request.offset request.stop (spans_of (C.list components.now)))) }
+        ≡ sets room.old 0 (all_numbers (pieces_of request.offset request.stop (S.spans spans.now))) }
 {
     let mut at: usize = 0;
-    for i in 0..components.count() {
-        at = put_part(room, at, components.span(i), request);
+    for i in 0..spans.count() {
+        at = put_part(room, at, spans.span(i), request);
     }
+}
+
+// Cuts the request by components of which the last one ends at `end`, wherever their spans are kept. Refused by 9, 10,
+// 11 or 12: all lent numbers then stay.
+fn cut_by<S: Spans>(
+    spans: &S,
+    end: u64,
+    offset: u64,
+    bytes: u64,
+    room: &mut [u64],
+) -> Result<u64, Refusal>
+    ensures { let lent = room.old in
+        let xs = S.spans spans.now in
+        let refusal = refusal_by end offset bytes (length lent) xs in
+        (cut_says result ≡ answer refusal (piece_count offset (offset + bytes) xs))
+        × (room.new ≡ room_after refusal (pieces_of offset (offset + bytes) xs) lent) }
+{
+    let pieces = count_pieces(spans, end, offset, bytes, room.len())?;
+    let stop = offset + bytes;
+    put_pieces(room, spans, Request { offset, stop });
+    Ok(pieces)
+}
+
+// Cuts the request by up to 16 spans that can be cut, of which the last one ends at `end`. They need not be end to end,
+// and `end` is taken as it is told, also if there is no span. Refused by 9, 10, 11 or 12: all lent numbers then stay.
+pub fn cut_spans(
+    spans: &[Span],
+    end: u64,
+    offset: u64,
+    bytes: u64,
+    room: &mut [u64],
+) -> Result<u64, Refusal>
+    requires { (length spans.now ≤ 16) × AllCuttable spans.now }
+    ensures { let lent = room.old in
+        let refusal = refusal_by end offset bytes (length lent) spans.now in
+        (cut_says result ≡ answer refusal (piece_count offset (offset + bytes) spans.now))
+        × (room.new ≡ room_after refusal (pieces_of offset (offset + bytes) spans.now) lent) }
+{
+    cut_by(&SpanList { spans }, end, offset, bytes, room)
 }
 
 // Cuts the request of `bytes` bytes from `offset` at every component border and at every multiple of the component's
@@ -161,10 +203,13 @@ pub fn cut_in<C: Components>(
         × (room.new
         ≡ room_after (cut_refusal offset bytes (length lent) cs) (cut_pieces offset bytes cs) lent) }
 {
-    let pieces = count_pieces(components, offset, bytes, room.len())?;
-    let stop = offset + bytes;
-    put_pieces(room, components, Request { offset, stop });
-    Ok(pieces)
+    cut_by(
+        &SpansOf { components },
+        last_end(components),
+        offset,
+        bytes,
+        room,
+    )
 }
 
 // The same, of a layout in memory that is known to be valid.

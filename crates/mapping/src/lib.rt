@@ -19,7 +19,8 @@ pub mod cutting;
 pub mod homes;
 mod listed;
 pub mod objects;
-mod units;
+mod spans;
+pub mod units;
 
 // The home of a file byte in an object: the object's target and its number there, and the byte of the object.
 #[derive(Clone, Copy)]

@@ -5,36 +5,35 @@ use Rattle.mapping.proofs.CutSteps.{counted_none, not_init_found, count_cuttable
 use Rattle.mapping.proofs.cutting.asked.Goals as goal
 
 pub loop-i-init : goal.loop-i-init
-loop-i-init g c =
-    counted_none (g.C.Components.list c.args.components.now) (g.met.C.Components.valid c.args.components.now)
+loop-i-init g c = counted_none (g.S.Spans.spans c.args.spans.now) (g.met.S.Spans.cuttable c.args.spans.now).1
 
 pub returns-then-not_init_asked : goal.returns-then-not_init_asked
 unfolding cut_says
 returns-then-not_init_asked g c =
-    let cs = g.C.Components.list c.args.components.now in
-    let h : c.loop-i.i < length cs = omega arith in
-    let found = not_init_found cs c.loop-i.invariant h c.span-span.ensures
+    let xs = g.S.Spans.spans c.args.spans.now in
+    let h : c.loop-i.i < length xs = omega arith in
+    let found = not_init_found xs c.loop-i.invariant h c.span-span.ensures
     (sym c.not_init_asked.ensures ∙ c.if-not_init_asked.true) in
     rw found
 
 pub part_count-pieces-requires : goal.part_count-pieces-requires
 part_count-pieces-requires g c =
-    let cs = g.C.Components.list c.args.components.now in
-    count_cuttable cs c.loop-i.invariant (omega arith) c.span-span.ensures
+    let xs = g.S.Spans.spans c.args.spans.now in
+    count_cuttable xs c.loop-i.invariant (omega arith) c.span-span.ensures
 
 pub overflow_add-pieces : goal.overflow_add-pieces
-overflow_add-pieces g c = omega (arith, c.loop-i.invariant.few, (g.met.C.Components.valid c.args.components.now).1)
+overflow_add-pieces g c = omega (arith, c.loop-i.invariant.few, (g.met.S.Spans.cuttable c.args.spans.now).0)
 
 pub loop-i-preserved : goal.loop-i-preserved
 loop-i-preserved g c =
-    let cs = g.C.Components.list c.args.components.now in
-    counted_next cs c.loop-i.invariant (omega arith) c.span-span.ensures
+    let xs = g.S.Spans.spans c.args.spans.now in
+    counted_next xs c.loop-i.invariant (omega arith) c.span-span.ensures
     (sym c.not_init_asked.ensures ∙ c.if-not_init_asked.false)
     c.part_count-pieces.ensures.0 c.part_count-pieces.ensures.1
 
 pub returns : goal.returns
 unfolding cut_says
 returns g c =
-    let cs = g.C.Components.list c.args.components.now in
-    let k = counted_all cs c.loop-i.invariant (omega arith) in
+    let xs = g.S.Spans.spans c.args.spans.now in
+    let k = counted_all xs c.loop-i.invariant (omega arith) in
     rw (k.0, k.1)

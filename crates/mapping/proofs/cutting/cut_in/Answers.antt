@@ -1,49 +1,8 @@
--- `mapping::cutting::cut_in` meets its contract: if nothing refuses the request, its pieces have room.
-use borrow.Author.Rules.{rules}
-use Rattle.std.proofs.Common.{◌≡◌, ◌∙◌, Err, length, arith}
-use Rattle.refusals.specs.Refusals.{number_of}
-use Rattle.layout.specs.Holder.{last_end}
-use Rattle.mapping.specs.Spans.{spans_of}
-use Rattle.mapping.specs.Cutting.{cut_says, cut_in}
-use Rattle.mapping.specs.CuttingLaws.{cut_refused, cut_accepted}
-use Rattle.mapping.specs.Acceptance.{accepted_facts}
+-- `mapping::cutting::cut_in` meets its contract: the components of a valid layout, as cutting sees them, are cut up to
+-- the end of the last one.
+use Rattle.mapping.specs.Cutting.{cut_in}
 use Rattle.mapping.proofs.cutting.cut_in.Goals as goal
 
-pub returns-in_err-pieces : goal.returns-in_err-pieces
-unfolding cut_says cut_in
-returns-in_err-pieces g c =
-    let cs = g.C.Components.list c.args.components.now in
-    let r : c.from_residual.result ≡ Err c.in_err-pieces.field-0.0 = search rules in
-    let number = number_of c.in_err-pieces.field-0.0 in
-    rw r (
-      c.in_err-pieces.ensures,
-      cut_refused (last_end cs) c.args.offset c.args.bytes (spans_of cs) c.args.room.now
-          number c.in_err-pieces.ensures,
-    )
-
--- Past the count, the request is accepted.
-pub overflow_add-stop : goal.overflow_add-stop
-unfolding cut_says cut_in
-overflow_add-stop g c =
-    let cs = g.C.Components.list c.args.components.now in
-    let done = cut_accepted (last_end cs) c.args.offset c.args.bytes (spans_of cs) c.args.room.now c.in_ok-pieces.pieces
-    c.in_ok-pieces.ensures in
-    let k = accepted_facts (last_end cs) c.args.offset c.args.bytes (length c.args.room.now) (spans_of cs) done.0 in
-    omega (arith, k.below)
-
-pub put_pieces-requires : goal.put_pieces-requires
-unfolding cut_says cut_in
-put_pieces-requires g c =
-    let cs = g.C.Components.list c.args.components.now in
-    let done = cut_accepted (last_end cs) c.args.offset c.args.bytes (spans_of cs) c.args.room.now c.in_ok-pieces.pieces
-    c.in_ok-pieces.ensures in
-    let k = accepted_facts (last_end cs) c.args.offset c.args.bytes (length c.args.room.now) (spans_of cs) done.0 in
-    (omega (arith, k.room))
-
 pub returns : goal.returns
-unfolding cut_says cut_in
-returns g c =
-    let cs = g.C.Components.list c.args.components.now in
-    let done = cut_accepted (last_end cs) c.args.offset c.args.bytes (spans_of cs) c.args.room.now c.in_ok-pieces.pieces
-    c.in_ok-pieces.ensures in
-    (c.in_ok-pieces.ensures, c.put_pieces.ensures ∙ done.1)
+unfolding cut_in
+returns g c = rw (← c.last_end.ensures) c.cut_by.ensures

@@ -1,7 +1,7 @@
 // Distinctness (refusal 8): ids, and object records anywhere in the layout. The object records are gathered once into
 // a dense row, which is scanned. A second row has a short key of each record: a record whose key equals none before it
 // is asked of none.
-ghost use Rattle.std.specs.Prelude.{◌≡◌, true, cond, ◌+◌, ◌*◌, ◌≤◌, ◌<◌, eqb, length, take, get_or};
+ghost use Rattle.std.specs.Prelude.{◌≡◌, true, cond, ◌+◌, ◌*◌, ◌≤◌, ◌<◌, eqb, min, length, take, get_or};
 ghost use Rattle.std.proofs.lemmas.List.Edits.{sets};
 ghost use Rattle.std.proofs.Math.Seq.{slice};
 ghost use Rattle.lists.specs.Tests.{every, first_failed, found};
@@ -92,6 +92,7 @@ pub fn object_repeat(objects: &[Object], keys: &mut [u16], from: usize) -> Optio
 }
 
 // Copies the object records of the component at a position to the row, from place `at` on; gives the place after them.
+// The row has room for as many as there are, or for 16.
 pub fn put_records<C: Components>(
     components: &C,
     i: usize,
@@ -99,10 +100,10 @@ pub fn put_records<C: Components>(
     objects: &mut [Object],
 ) -> usize
     requires place { i < length (C.list components.now) }
-    requires room { at + length (records_of (get_or (C.list components.now) i no_component))
+    requires room { at + min (length (records_of (get_or (C.list components.now) i no_component))) 16
         ≤ length objects.old }
     ensures { let os = records_of (get_or (C.list components.now) i no_component) in
-        (result ≡ at + length os) × (objects.new ≡ sets objects.old at os) }
+        (result ≡ at + length os) × (result ≤ at + 16) × (objects.new ≡ sets objects.old at os) }
 {
     let n = components.records(i);
     for j in 0..n {
@@ -111,11 +112,15 @@ pub fn put_records<C: Components>(
     at + n
 }
 
-// Copies the object records of the components to the row, from its first place on; gives the place after them.
+// Copies the object records of the components to the row, from its first place on; gives the place after them. The row
+// has room for as many as there are, or for 16 of each component.
 pub fn put_all<C: Components>(components: &C, objects: &mut [Object]) -> usize
-    requires { length (records_in (C.list components.now)) ≤ length objects.old }
+    requires { let cs = C.list components.now in
+        min (length (records_in cs)) (16 * length cs) ≤ length objects.old }
     ensures { let os = records_in (C.list components.now) in
-        (result ≡ length os) × (objects.new ≡ sets objects.old 0 os) }
+        (result ≡ length os)
+        × (result ≤ 16 * length (C.list components.now))
+        × (objects.new ≡ sets objects.old 0 os) }
 {
     let mut p = 0;
     for i in 0..components.count() {

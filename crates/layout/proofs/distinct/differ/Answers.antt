@@ -14,7 +14,7 @@ object_repeat-requires g c =
     let os = records_in cs in
     let p = c.put_all-all in
     let few : length os ≤ length (replicate g.row.N no_object) = rw length-replicate (omega arith) in
-    let row : take p.result p.new.objects ≡ os = stored _ _ os p.result few p.ensures.0 p.ensures.1 in
+    let row : take p.result p.new.objects ≡ os = stored _ _ os p.result few p.ensures.0 p.ensures.2 in
     let t : length (take p.result p.new.objects) ≡ p.result = ap length row ∙ sym p.ensures.0 in
     let split : os ≡ records_in (take c.args.from cs) ++ records_in (drop c.args.from cs) =
     ap records_in (sym (take-append-drop c.args.from cs))
@@ -30,5 +30,5 @@ returns g c =
     let os = records_in (g.C.Components.list c.args.components.now) in
     let p = c.put_all-all in
     let few : length os ≤ length (replicate g.row.N no_object) = rw length-replicate (omega arith) in
-    let row = stored _ _ os p.result few p.ensures.0 p.ensures.1 in
+    let row = stored _ _ os p.result few p.ensures.0 p.ensures.2 in
     scanned os _ c.object_repeat.result c.is_none.result row c.object_repeat.ensures.0 c.is_none.ensures

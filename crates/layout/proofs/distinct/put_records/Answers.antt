@@ -22,4 +22,4 @@ pub returns : goal.returns
 returns g c =
     let os = records_of (get_or (g.C.Components.list c.args.components.now) c.args.i no_component) in
     let e = drop_of_length-le os {i = c.loop-j.j} (omega (arith, c.records-n.ensures)) in
-    (omega (arith, c.records-n.ensures), sym (c.loop-j.invariant.1 ∙ rw e))
+    (omega (arith, c.records-n.ensures), omega (arith, c.records-n.ensures), sym (c.loop-j.invariant.1 ∙ rw e))

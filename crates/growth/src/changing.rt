@@ -2,14 +2,16 @@
 ghost use Rattle.std.specs.Prelude.{◌≡◌, ◌+◌, ◌-◌, ◌<◌, ◌≤◌, drop};
 ghost use Rattle.std.proofs.lemmas.List.Edits.{sets};
 ghost use Rattle.layout.specs.Records.{view, packed};
-ghost use Rattle.growth.specs.Plans.{planned, replacement, replacement_count, IsWithin};
+ghost use Rattle.growth.specs.Plans.{planned, replacement, replacement_count};
 
 use crate::Change;
 use layout::{Component, Layout};
 
 // The components of the layout, with what the change puts in place of its `old` ones, in the first places.
 fn spliced(l: Layout, p: Change) -> [Component; 16]
-    requires { (l.count ≤ 16) × IsWithin p l.count × (l.count + replacement_count p ≤ 16 + p.old) }
+    requires { (l.count ≤ 16)
+        × (p.at + p.old ≤ l.count)
+        × (l.count + replacement_count p ≤ 16 + p.old) }
     ensures { result ≡ sets l.components p.at (replacement p (drop (p.at + p.old) (view l))) }
 {
     let mut next = l.components;
@@ -35,7 +37,7 @@ pub fn planned_count(n: usize, p: Change) -> usize
 // The layout with what the change puts in place of its `old` components. Its generation is one higher.
 pub fn changed(l: Layout, p: Change) -> Layout
     requires { (l.count ≤ 16)
-        × IsWithin p l.count
+        × (p.at + p.old ≤ l.count)
         × (l.count + replacement_count p ≤ 16 + p.old)
         × (l.generation < 4294967295) }
     ensures { result ≡ packed (l.generation + 1) (planned p (view l)) }

@@ -69,6 +69,6 @@ pub fn grow_valid(
     if !free_table::table_ok(table) {
         return Err(Refusal::Table);
     }
-    let plan = plans::plan_at(&l, i, mark, table)?;
-    outcomes::of_plan(l, offset, mark, table, plan)
+    let plan = plans::plan_at(&l, i, mark, table);
+    outcomes::of_step(l, offset, mark, table, plan)
 }

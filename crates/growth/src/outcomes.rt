@@ -102,7 +102,7 @@ fn of_change(
     Ok(accepted(changing::changed(l, p), offset, true))
 }
 
-// What a plan gives.
+// What a plan that is no refusal gives.
 pub fn of_plan(
     l: Layout,
     offset: u64,
@@ -120,4 +120,21 @@ pub fn of_plan(
         Some(p) => of_change(l, offset, mark, table, p),
         None => Ok(accepted(l, offset, false)),
     }
+}
+
+// What the plan of a step gives: a plan that is a refusal refuses the step, and the table stays.
+pub fn of_step(
+    l: Layout,
+    offset: u64,
+    mark: u64,
+    table: &mut [TargetRecord],
+    plan: Result<Option<Change>, Refusal>,
+) -> Result<Grown, Refusal>
+    requires { (valid l ≡ true)
+        × (table_ok table.old ≡ true)
+        × PlanFor l (call_of offset mark table.old) plan }
+    ensures { let k = call_of offset mark table.old in
+        GrownSays l result table.new (outcome_of l k (step_of l k)) }
+{
+    of_plan(l, offset, mark, table, plan?)
 }

@@ -1,6 +1,6 @@
 -- `growth::grow_valid` meets its contract: 10 and 15 are asked in their order, and then the step is made.
 use Rattle.std.specs.Prelude.{ℕ, ◌≡◌, List, None, Some, Err, true, false, refl, leb, length}
-use Rattle.std.proofs.Common.{ap, sym, ◌∙◌, subst, arith}
+use Rattle.std.proofs.Common.{sym, ◌∙◌, subst, arith}
 use Rattle.std.proofs.lemmas.Bool.{le-leb, lt-leb}
 use borrow.Author.Rules.{rules}
 use Rattle.lists.specs.Tests.{found}
@@ -13,10 +13,10 @@ use Rattle.layout.specs.Facts.{Valid}
 use Rattle.layout.specs.FactLaws.{valid_facts}
 use Rattle.free_table.specs.declared.TargetRecord.{TargetRecord}
 use Rattle.mapping.proofs.Firsts.{found_some, found_none}
-use Rattle.growth_rules.specs.Growing.{Outcome, outcome_of}
+use Rattle.growth_rules.specs.Growing.{Outcome}
 use Rattle.growth_rules.specs.StepLaws.{past_holder}
 use Rattle.growth.specs.Answers.{call_of, grow_says, GrownSays}
-use Rattle.growth.specs.Plans.{plan_says, plan_at, PlanFor}
+use Rattle.growth.specs.Plans.{plan_at, PlanFor}
 use Rattle.growth.specs.OutcomeLaws.{grow_past, grow_bad_table, grow_steps}
 use Rattle.growth.specs.PlanCases.{plan_holder}
 use Rattle.growth.proofs.grow_valid.Goals as goal
@@ -61,29 +61,12 @@ returns-then-not-table_ok c =
     subst (λ (o : Outcome). GrownSays c.args.l (Err Refusal.Table) c.args.table.now o) (sym e)
     record { answer = refl; layout = refl; table = refl }
 
-pub returns-in_err-plan : goal.returns-in_err-plan
-unfolding grow_says plan_says outcome_of
-returns-in_err-plan c =
-    let call = call_of c.args.offset c.args.mark c.args.table.now in
-    let v = valid_facts c.args.l c.requires in
-    let there = sym c.holder.ensures ∙ c.in_ok-i.ensures.ok_part in
-    let r : c.from_residual-in_err-plan.result ≡ Err c.in_err-plan.field-0.0 = search rules in
-    let plan : PlanFor c.args.l call (Err c.in_err-plan.field-0.0) =
-    rw (sym c.in_err-plan.ensures) at (plan_found c.args.l v c.args.offset c.args.mark c.args.table.now c.in_ok-i.i
-    there) in
-    let s =
-    grow_steps c.args.l call (inside c.args.l v c.args.offset c.in_ok-i.i there)
-    (sym c.table_ok.ensures ∙ c.if-not-table_ok.false)
-    ∙ ap (outcome_of c.args.l call) (sym plan.says) in
-    subst (λ (o : Outcome). GrownSays c.args.l c.from_residual-in_err-plan.result c.args.table.now o) (sym s)
-    record { answer = rw (r, plan.within); layout = rw r; table = refl }
-
-pub of_plan-requires : goal.of_plan-requires
-of_plan-requires c =
+pub of_step-requires : goal.of_step-requires
+of_step-requires c =
     let there = sym c.holder.ensures ∙ c.in_ok-i.ensures.ok_part in
     let plan = plan_found c.args.l (valid_facts c.args.l c.requires) c.args.offset c.args.mark c.args.table.now
     c.in_ok-i.i there in
-    (c.requires, sym c.table_ok.ensures ∙ c.if-not-table_ok.false, rw (sym c.in_ok-plan.ensures) at plan)
+    (c.requires, sym c.table_ok.ensures ∙ c.if-not-table_ok.false, rw (sym c.plan_at-plan.ensures) at plan)
 
 pub returns : goal.returns
 returns c =
@@ -92,4 +75,4 @@ returns c =
     grow_steps c.args.l (call_of c.args.offset c.args.mark c.args.table.now)
     (inside c.args.l (valid_facts c.args.l c.requires) c.args.offset c.in_ok-i.i there)
     (sym c.table_ok.ensures ∙ c.if-not-table_ok.false) in
-    subst (λ (o : Outcome). GrownSays c.args.l c.of_plan.result c.of_plan.new.table o) (sym e) c.of_plan.ensures
+    subst (λ (o : Outcome). GrownSays c.args.l c.of_step.result c.of_step.new.table o) (sym e) c.of_step.ensures

@@ -11,5 +11,5 @@ returns c =
     c.pack.ensures
     ∙ ap (λ (cs : List Component). packed (c.args.l.generation + 1) cs)
     (rw (c.planned_count.ensures, c.spliced-next.ensures)
-    (spliced_planned c.args.p c.args.l.components c.args.l.count (omega (arith, c.requires.0)) c.requires.1.within
+    (spliced_planned c.args.p c.args.l.components c.args.l.count (omega (arith, c.requires.0)) c.requires.1
     (omega (arith, c.requires.2))))

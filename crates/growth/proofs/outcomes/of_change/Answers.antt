@@ -50,7 +50,8 @@ changed-requires c =
     let v = valid_facts c.args.l c.requires.0 in
     let k = free c.args.l (call_of c.args.offset c.args.mark c.args.table.now) c.args.p c.in_ok-check.ensures in
     let n = planned_length c.args.p (view c.args.l) (omega (arith, c.requires.2.within.within, v.whole)) in
-    (v.few, c.requires.2.within, omega (arith, n, k.few, v.whole, c.requires.2.within.within), omega (arith, k.below))
+    let within = c.requires.2.within.within in
+    (v.few, within, omega (arith, n, k.few, v.whole, within), omega (arith, k.below))
 
 pub accepted-requires : goal.accepted-requires
 accepted-requires c =

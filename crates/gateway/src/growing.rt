@@ -139,7 +139,9 @@ fn grow(
         × (grown.new ≡ grown_after n grown.old o)
         × (answer.new ≡ answer_after n answer.old o) }
 {
-    let l = crate::read_layout(pages)?;
+    let mut places = [0; 16];
+    let read = placed_run::read(pages, &mut places)?;
+    let l = crate::layout_found(pages, &places, read);
     let mut records = [NO_RECORD; 65];
     let n = load(table, &mut records);
     let step = growth::grow_valid(l, offset, low_mark, &mut records[..n])?;

@@ -17,7 +17,8 @@
 // object's; pages, components and stripes are counted from 0.
 #![tactic(auto)]
 
-ghost use Rattle.std.specs.Prelude.{◌≡◌, IfOk};
+ghost use Rattle.std.specs.Prelude.{◌≡◌, IfOk, Ok};
+ghost use Rattle.placed_run.specs.Found.{Finds};
 ghost use Rattle.refusals.specs.Refusals.{number_in};
 ghost use Rattle.layout.specs.Rows.{object_of};
 ghost use Rattle.mapping.specs.Homes.{in_object};
@@ -28,6 +29,7 @@ ghost use Rattle.gateway.specs.Host.{cut_number, pieces_after, count_after, page
 
 use layout::{Layout, Object};
 use placed_mapping::Placed;
+use placed_run::Found;
 use refusals::Refusal;
 
 pub mod growing;
@@ -42,14 +44,13 @@ fn number_of(answer: Result<(), Refusal>) -> u32
     }
 }
 
-// The layout that is in the pages.
-fn read_layout(pages: &[u8]) -> Result<Layout, Refusal>
-    ensures number { number_in result ≡ (host_reading pages.now).refusal }
-    ensures layout { IfOk result (λ l. l ≡ host_layout pages.now) }
+// The layout whose components were found in the pages. It is built where the caller keeps it: an answer with a refusal
+// beside it would be cleared and copied once more.
+fn layout_found(pages: &[u8], places: &[usize; 16], read: Found) -> Layout
+    requires { Finds pages.now (Ok read) places.now }
+    ensures { result ≡ host_layout pages.now }
 {
-    let mut places = [0; 16];
-    let read = placed_run::read(pages, &mut places)?;
-    Ok(in_place::whole::layout_at(pages, &places[..read.count], read.generation))
+    in_place::whole::layout_at(pages, &places[..read.count], read.generation)
 }
 
 // The components that are in the pages, by their places in them.
@@ -164,7 +165,9 @@ fn page(pages: &[u8], number: u64, buffer: &mut [u8], written: &mut u64) -> Resu
         × (buffer.new ≡ buffer_after bytes number lent)
         × (written.new ≡ written_after bytes number lent written.old) }
 {
-    let l = read_layout(pages)?;
+    let mut places = [0; 16];
+    let read = placed_run::read(pages, &mut places)?;
+    let l = layout_found(pages, &places, read);
     *written = paging::write_page(l, number, buffer)? as u64;
     Ok(())
 }

@@ -1,16 +1,18 @@
 // The home of a file byte.
 ghost use Rattle.std.specs.Prelude.{◌≡◌, true, ◌<◌, length, get_or};
 ghost use Rattle.stripe.specs.Stripe.{stripe_of, object_byte};
-ghost use Rattle.layout.specs.Records.{no_component, view};
+ghost use Rattle.layout.specs.declared.Component.{Component};
+ghost use Rattle.layout.specs.Records.{no_component, no_object, records_of, view};
 ghost use Rattle.layout.specs.Rules.{valid};
 ghost use Rattle.layout.specs.Facts.{IsInit};
 ghost use Rattle.mapping.specs.Lookup.{home_says, lookup_says, lookup_in};
 ghost use Rattle.mapping.specs.Homes.{home_in};
+ghost use Rattle.mapping.specs.Spans.{span_of};
 
 use crate::components::Components;
 use crate::listed::Listed;
 use crate::{ObjectHome, Span};
-use layout::{Component, Layout};
+use layout::{Component, Layout, Object};
 use refusals::Refusal;
 
 // The stripe and the object byte of a file byte by a component; its extent is not looked at.
@@ -25,28 +27,59 @@ fn striped(c: Span, offset: u64) -> (u16, u64)
     (stripe, byte)
 }
 
-// The home of a file byte by a component that is init; the component's extent is not looked at.
-pub fn home_in(c: &Component, offset: u64) -> ObjectHome
-    requires { IsInit c.now }
-    ensures { home_says result ≡ home_in c.now offset }
-{
-    let (stripe, byte) = striped(Span::from(c), offset);
-    let object = c.objects()[stripe as usize];
-    ObjectHome {
-        target: object.target,
-        number: object.number,
-        byte,
+// A component, wherever it is kept, as its homes ask for it. What is asked of it is read where it is.
+pub trait OneComponent {
+    ghost component: { Self → Component };
+
+    // The component, its object records left out.
+    fn span(&self) -> Span
+        requires { IsInit (component self.now) }
+        ensures { result ≡ span_of (component self.now) };
+
+    // The object record of a stripe.
+    fn object(&self, stripe: u16) -> Object
+        requires { stripe < length (records_of (component self.now)) }
+        ensures { result ≡ get_or (records_of (component self.now)) stripe no_object };
+}
+
+impl OneComponent for Component {
+    ghost component = { λ c. c };
+
+    fn span(&self) -> Span {
+        Span::from(self)
+    }
+
+    fn object(&self, stripe: u16) -> Object {
+        self.objects()[stripe as usize]
     }
 }
 
-// The same, by the component at a position.
-fn home_at<C: Components>(components: &C, i: usize, offset: u64) -> ObjectHome
-    requires place { i < length (C.list components.now) }
-    requires init { IsInit (get_or (C.list components.now) i no_component) }
-    ensures { home_says result ≡ home_in (get_or (C.list components.now) i no_component) offset }
+// The component at a position. Past the last one there is none that is init.
+#[derive(Drop)]
+struct ComponentAt<'a, C> {
+    components: &'a C,
+    i: usize,
+}
+
+impl<'a, C: Components> OneComponent for ComponentAt<'a, C> {
+    ghost component = { λ c. get_or (C.list c.components.now) c.i no_component };
+
+    fn span(&self) -> Span {
+        self.components.span(self.i)
+    }
+
+    fn object(&self, stripe: u16) -> Object {
+        self.components.object(self.i, stripe)
+    }
+}
+
+// The home of a file byte by a component that is init; the component's extent is not looked at.
+pub fn home_in<T: OneComponent>(c: &T, offset: u64) -> ObjectHome
+    requires { IsInit (T.component c.now) }
+    ensures { home_says result ≡ home_in (T.component c.now) offset }
 {
-    let (stripe, byte) = striped(components.span(i), offset);
-    let object = components.object(i, stripe);
+    let (stripe, byte) = striped(c.span(), offset);
+    let object = c.object(stripe);
     ObjectHome {
         target: object.target,
         number: object.number,
@@ -66,7 +99,7 @@ pub fn lookup_in<C: Components>(components: &C, offset: u64) -> Result<ObjectHom
             if !c.init {
                 return Err(Refusal::NotInit);
             }
-            return Ok(home_at(components, i, offset));
+            return Ok(home_in(&ComponentAt { components, i }, offset));
         }
     }
     Err(Refusal::PastEnd)

@@ -6,10 +6,10 @@ use Rattle.mapping.proofs.homes.home_in.Goals as goal
 
 pub returns : goal.returns
 unfolding home_in
-returns c =
-    let x = c.args.c.now in
+returns g c =
+    let x = g.T.OneComponent.component c.args.c.now in
     let stripe : c.striped-stripe.result.0 ≡ stripe_of x.stripe_size x.stripe_count c.args.offset
-    = rw c.from.ensures at c.striped-stripe.ensures.0 in
+    = rw c.span.ensures at c.striped-stripe.ensures.0 in
     let byte : c.striped-stripe.result.1 ≡ object_byte x.stripe_size x.stripe_count c.args.offset
-    = rw c.from.ensures at c.striped-stripe.ensures.1 in
-    rw (← stripe, ← byte, ← c.objects.ensures)
+    = rw c.span.ensures at c.striped-stripe.ensures.1 in
+    rw (← stripe, ← byte, ← c.object-object.ensures)

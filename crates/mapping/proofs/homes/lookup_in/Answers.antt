@@ -17,8 +17,8 @@ returns-then-not-c g c =
     sym (not_init_holds cs v c.args.offset c.loop-i.i (omega arith) c.loop-i.invariant
     (rw c.end.ensures at c.if-offset-end.true) c.span-c.ensures (not-true _ c.if-not-c.true))
 
-pub home_at-requires-clause-init : goal.home_at-requires-clause-init
-home_at-requires-clause-init g c =
+pub home_in-requires : goal.home_in-requires
+home_in-requires g c =
     let cs = g.C.Components.list c.args.components.now in
     let v = g.met.C.Components.valid c.args.components.now in
     holder_init cs v c.args.offset c.loop-i.i (omega arith) c.loop-i.invariant
@@ -29,7 +29,7 @@ unfolding lookup_says
 returns-then-offset-end g c =
     let cs = g.C.Components.list c.args.components.now in
     let v = g.met.C.Components.valid c.args.components.now in
-    ap (λ (x : Home). gives (some x)) c.home_at.ensures
+    ap (λ (x : Home). gives (some x)) c.home_in.ensures
     ∙ sym (init_holds cs v c.args.offset c.loop-i.i (omega arith) c.loop-i.invariant
     (rw c.end.ensures at c.if-offset-end.true) c.span-c.ensures (not-false _ c.if-not-c.false))
 
